@@ -1,0 +1,6 @@
+pub mod Four
+pub mod Fractions
+pub mod Rounding
+pub mod Sets
+pub mod Tight
+pub mod Values
