@@ -1,7 +1,9 @@
 -- Sizes of sums and products: how large a bound can grow, and that it fits a 64-bit word. Assumes nothing.
 use Prim.Native.Nat.{ℕ, zero, suc, _+_, _*_, _^_, _<_, _≤_}
-use mathlib.Core.Path.{_≡_, refl, ap}
+use mathlib.Core.Path.{_≡_, refl, ap, sym, _∙_, subst}
 use mathlib.Core.Bool.{cond}
+use native.Mathlib.Numerals.{add-one}
+use native.Mathlib.Nat.{zero-add, mul-add, mul-one}
 use native.Mathlib.Omega.{arith}
 use mir.Val.{SFits}
 use mir.Syntax.{w64}
@@ -13,7 +15,7 @@ use Rattle.std.proofs.shelf.Bits.{mul-le}
 use Rattle.std.proofs.shelf.Signed.{ints}
 use Rattle.std.proofs.shelf.Tests.{cond-both, ltb-true, ltb-false}
 use Rattle.arithmetic.specs.Four.{least4, greatest4, least, greatest, products}
-use Rattle.arithmetic.specs.Values.{Value, empty, bounds, plus, opposite, times, rescaled, Small}
+use Rattle.arithmetic.specs.Values.{Value, empty, bounds, plus, opposite, times, rescaled, total, Small}
 
 -- ---- one number
 sub-size : (a b : ℕ) → natAbs (subℕ a b) ≤ a + b
@@ -76,3 +78,13 @@ small-opposite n (bounds a b) h = (omega (arith, size-negative b), omega (arith,
 pub small-more : (m n : ℕ) (x : Value) → m ≤ n → Small m x → Small n x
 small-more m n empty le h = tt
 small-more m n (bounds a b) le h = (omega arith, omega arith)
+
+-- ---- a loop that sums: one term more, each at most m in size
+pub total-more : (f : ℕ → Value) (m j : ℕ) (sofar term all : Value) → sofar ≡ total f 0 j → term ≡ f j → all ≡ plus sofar term → Small (m * j) sofar → Small m term
+    → (all ≡ total f 0 (j + 1)) × Small (m * (j + 1)) all
+total-more f m j sofar term all s t a h k =
+    let P : Value → Type 0 = Small (m * (j + 1)) in
+    (a ∙ rw (add-one, zero-add, s, t) refl, subst P (sym a) (small-more (m * j + m) (m * (j + 1)) (plus sofar term) (room m j) (small-plus (m * j) m sofar term h k)))
+  where
+    room : (m j : ℕ) → m * j + m ≤ m * (j + 1)
+    room m j = omega (arith, mul-add m j 1, mul-one m)

@@ -1,0 +1,22 @@
+use borrow.Author.Needs.{needs}
+use mathlib.Core.Path.{_≡_, _∙_, ap}
+use mir.Val.{SFits}
+use mir.Syntax.{w64}
+use Rattle.std.proofs.shelf.Signed.{toZ-ofZ}
+use Rattle.arithmetic.specs.Four.{least}
+use Rattle.arithmetic.specs.Values.{least-quotient}
+use Rattle.rounding.specs.declared.direction.Direction.{Direction}
+use Rattle.rounding.specs.declared.direction.Direction.the-variants.{Down}
+use Rattle.rounding.specs.declared.fault.Bound.the-variants.{Lower}
+use Rattle.rounding.specs.Outward.{fitted}
+use Rattle.cells.specs.Quotients.{quotients-in}
+use Rattle.cells.proofs.dividing.lower_side.Needs as need
+
+pub returns : need.returns
+unfolding least-quotient
+returns c =
+    let s = c .args .sums in let by = c .args .by in
+    let f : SFits w64 (c .least-of .result) = search needs in
+    let d : c .divide .result ≡ quotients-in Down (s .least .value) (s .greatest .value) (by .lower) (by .upper) =
+        c .divide .ensures ∙ ap (λ (way : Direction). quotients-in way (s .least .value) (s .greatest .value) (by .lower) (by .upper)) (c .pre .down) in
+    (simp toZ-ofZ at (c .fitting .ensures)) ∙ ap (fitted Lower) (c .least-of .ensures ∙ ap least d)

@@ -1,0 +1,48 @@
+-- Records and cells: what a record reads as, what is written for a cell, and the rule that every cell keeps.
+use mathlib.Core.Bool.{Bool, cond, _||_}
+use mathlib.Core.List.{List}
+use Prim.Native.Nat.{ℕ}
+use lib.IntN.{ℤ, pos, negsuc}
+use lib.Signed.{_≤ℤ_, ltZ}
+use lib.ListN.{getD}
+use Rattle.arithmetic.specs.Values.{Value, empty, bounds}
+use Rattle.cells.specs.declared.cell.Cell.{Cell}
+use Rattle.cells.specs.declared.cell.Cell.the-variants as cell
+use Rattle.cells.specs.declared.cell.Record.{Record}
+use Rattle.cells.specs.declared.cell.Sum.{Sum}
+use Rattle.cells.specs.declared.cell.Sum.the-variants as sum
+
+-- what a cell of the code stands for
+abbrev pub cell-value : Cell → Value
+cell-value cell.Empty = empty
+cell-value (cell.Bounds i) = bounds (i .lower) (i .upper)
+
+-- what an unrounded sum of the code stands for
+abbrev pub sum-value : Sum → Value
+sum-value sum.Empty = empty
+sum-value (sum.Bounds a b) = bounds a b
+
+-- the rule of a cell: empty, or bounds in order, neither beyond the limit of 131,071 in size
+abbrev pub IsCell : Value → Type 0
+IsCell empty = Unit {0}
+IsCell (bounds a b) = (negsuc 131070 ≤ℤ a) × (a ≤ℤ b) × (b ≤ℤ pos 131071)
+
+-- the two numbers break the rule
+abbrev pub broken : ℤ → ℤ → Bool
+broken l u = ltZ l (negsuc 131070) || (ltZ (pos 131071) u || ltZ u l)
+
+-- a record that breaks the rule reads as the empty cell
+abbrev pub read-as : Record → Value
+read-as r = cond (broken (r .lower) (r .upper)) empty (bounds (r .lower) (r .upper))
+
+-- the record that is written for the empty cell, and for any
+abbrev pub blank : Record
+blank = record { lower = pos 1; upper = pos 0 }
+
+abbrev pub written : Value → Record
+written empty = blank
+written (bounds a b) = record { lower = a; upper = b }
+
+-- the cell at a place of a run, empty past its end
+abbrev pub cell-at : List Record → ℕ → Value
+cell-at run place = read-as (getD run place blank)

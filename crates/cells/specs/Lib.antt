@@ -1,0 +1,5 @@
+pub mod Cells
+pub mod Faults
+pub mod Formulas
+pub mod Questions
+pub mod Quotients
