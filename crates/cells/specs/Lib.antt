@@ -1,5 +1,8 @@
+pub mod Cases
 pub mod Cells
 pub mod Faults
 pub mod Formulas
+pub mod Laws
 pub mod Questions
 pub mod Quotients
+pub mod Worked

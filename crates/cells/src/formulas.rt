@@ -4,8 +4,7 @@ ghost use mathlib.Core.Path.{_≡_};
 ghost use Prim.Native.Nat.{ℕ, _*_, _≤_};
 ghost use Rattle.arithmetic.specs.Values.{times, total, Small};
 ghost use Rattle.cells.specs.Cells.{cell-value, sum-value, cell-at};
-ghost use Rattle.cells.specs.Faults.{kept, in-row};
-ghost use Rattle.cells.specs.Formulas.{dot-cell, sum-cell, blend-cell};
+ghost use Rattle.cells.specs.Worked.{dot-at, sum-at, blend-at};
 use rounding::rest::Rounding;
 use crate::cell::Factors;
 use crate::cell::Record;
@@ -48,7 +47,7 @@ fn sum_of_cells(xs: &[Record], terms: Terms) -> Sum
 
 // beta·r + alpha·Σ x_j·y_j over the first places of two runs, r being the cell at the row.
 pub fn dot(rounding: &mut Rounding, scale: Scale, factors: Factors, column: &[Record], row: usize, xs: &[Record], ys: &[Record], terms: Terms) -> Result<Record, CellFault>
-    ensures { λ r. ⌜ r ≡ in-row row (kept (dot-cell (scale .steps) (cell-value (factors .alpha)) (cell-value (factors .beta)) (cell-at (now (column .entry)) row) (cell-at (now (xs .entry))) (cell-at (now (ys .entry))) (terms .count))) ⌝ }
+    ensures { λ r. ⌜ r ≡ dot-at (scale .steps) (cell-value (factors .alpha)) (cell-value (factors .beta)) (now (column .entry)) row (now (xs .entry)) (now (ys .entry)) (terms .count) ⌝ }
 {
     let old = product(factors.beta, cell_at(column, row)).scaled(scale);
     let worked = product_sum(factors.alpha, sum_of_products(xs, ys, terms));
@@ -57,14 +56,14 @@ pub fn dot(rounding: &mut Rounding, scale: Scale, factors: Factors, column: &[Re
 
 // Σ x_j over the first places of a run.
 pub fn sum(xs: &[Record], terms: Terms, row: usize) -> Result<Record, CellFault>
-    ensures { λ r. ⌜ r ≡ in-row row (kept (sum-cell (cell-at (now (xs .entry))) (terms .count))) ⌝ }
+    ensures { λ r. ⌜ r ≡ sum-at row (now (xs .entry)) (terms .count) ⌝ }
 {
     Ok(keep(sum_of_cells(xs, terms)).at(row)?)
 }
 
 // alpha·x + beta·r, x and r being the cells at the row of two runs.
 pub fn blend(rounding: &mut Rounding, scale: Scale, factors: Factors, column: &[Record], row: usize, xs: &[Record]) -> Result<Record, CellFault>
-    ensures { λ r. ⌜ r ≡ in-row row (kept (blend-cell (scale .steps) (cell-value (factors .alpha)) (cell-value (factors .beta)) (cell-at (now (xs .entry)) row) (cell-at (now (column .entry)) row))) ⌝ }
+    ensures { λ r. ⌜ r ≡ blend-at (scale .steps) (cell-value (factors .alpha)) (cell-value (factors .beta)) (now (column .entry)) row (now (xs .entry)) ⌝ }
 {
     let worked = product(factors.alpha, cell_at(xs, row));
     let old = product(factors.beta, cell_at(column, row));

@@ -4,7 +4,7 @@ pub mod dividing;
 pub mod fault;
 pub mod formulas;
 pub mod four;
-// pub mod laws;
+pub mod laws;
 pub mod questions;
 pub mod reading;
 pub mod rounding_out;

@@ -1,0 +1,44 @@
+-- What the parts above may rely on: reading back, what is kept, and for each formula that its cell is tight for the values
+-- that its operands reach, and that these values grow with the operands.
+use mathlib.Core.Path.{_≡_}
+use mathlib.Core.Bool.{true}
+use Prim.Native.Nat.{ℕ, _<_}
+use lib.IntN.{ℤ, pos}
+use lib.Signed.{_<ℤ_}
+use Rattle.std.specs.declared.result.Result.the-variants.{Ok}
+use Rattle.arithmetic.specs.Sets.{Included}
+use Rattle.arithmetic.specs.Values.{Value, Ordered, Inside, Within, Tightly}
+use Rattle.cells.specs.declared.cell.Record.{Record}
+use Rattle.cells.specs.Cells.{IsCell, read-as, written}
+use Rattle.cells.specs.Faults.{kept}
+use Rattle.cells.specs.Formulas.{dot-cell, DotValues, sum-cell, SumValues, blend-cell, BlendValues}
+use Rattle.cells.specs.Questions.{nested}
+
+pub record Laws : Type 0 where
+  -- every record reads as a cell, and a cell that was written reads as itself
+  pub read-cell : (r : Record) → IsCell (read-as r)
+  pub read-written : (c : Value) → IsCell c → read-as (written c) ≡ c
+  -- a value is kept exactly if it is a cell, and then as the record that is written for it
+  pub kept-cell : (v : Value) → IsCell v → kept v ≡ Ok (written v)
+  pub kept-is : (v : Value) (r : Record) → Ordered v → kept v ≡ Ok r → IsCell v × (r ≡ written v)
+  -- the test of bounds tells whether every fraction inside one cell is inside the other, at any scale
+  pub nested-within : (u : ℤ) (a b : Value) → nested a b ≡ true → Within u a b
+  pub within-nested : (u : ℤ) (a b : Value) → pos 0 <ℤ u → Ordered a → Within u a b → nested a b ≡ true
+  -- a cell is tight for the fractions inside it
+  pub inside-tight : (u : ℤ) (c : Value) → pos 0 <ℤ u → Ordered c → Tightly u (Inside u c) c
+  -- dot
+  pub dot-tight : (u : ℤ) (alpha beta r : Value) (xs ys : ℕ → Value) (n : ℕ) → pos 0 <ℤ u → Ordered alpha → Ordered beta → Ordered r
+    → ((j : ℕ) → j < n → Ordered (xs j)) → ((j : ℕ) → j < n → Ordered (ys j))
+    → Tightly u (DotValues (Inside u alpha) (Inside u beta) (Inside u r) (λ j. Inside u (xs j)) (λ j. Inside u (ys j)) n) (dot-cell u alpha beta r xs ys n)
+  pub dot-grows : (u : ℤ) (alpha beta r alpha′ beta′ r′ : Value) (xs ys xs′ ys′ : ℕ → Value) (n : ℕ) → Within u alpha alpha′ → Within u beta beta′ → Within u r r′
+    → ((j : ℕ) → j < n → Within u (xs j) (xs′ j)) → ((j : ℕ) → j < n → Within u (ys j) (ys′ j))
+    → Included (DotValues (Inside u alpha) (Inside u beta) (Inside u r) (λ j. Inside u (xs j)) (λ j. Inside u (ys j)) n)
+               (DotValues (Inside u alpha′) (Inside u beta′) (Inside u r′) (λ j. Inside u (xs′ j)) (λ j. Inside u (ys′ j)) n)
+  -- sum
+  pub sum-tight : (u : ℤ) (xs : ℕ → Value) (n : ℕ) → pos 0 <ℤ u → ((j : ℕ) → j < n → Ordered (xs j)) → Tightly u (SumValues (λ j. Inside u (xs j)) n) (sum-cell xs n)
+  pub sum-grows : (u : ℤ) (xs xs′ : ℕ → Value) (n : ℕ) → ((j : ℕ) → j < n → Within u (xs j) (xs′ j)) → Included (SumValues (λ j. Inside u (xs j)) n) (SumValues (λ j. Inside u (xs′ j)) n)
+  -- blend
+  pub blend-tight : (u : ℤ) (alpha beta x r : Value) → pos 0 <ℤ u → Ordered alpha → Ordered beta → Ordered x → Ordered r
+    → Tightly u (BlendValues (Inside u alpha) (Inside u beta) (Inside u x) (Inside u r)) (blend-cell u alpha beta x r)
+  pub blend-grows : (u : ℤ) (alpha beta x r alpha′ beta′ x′ r′ : Value) → Within u alpha alpha′ → Within u beta beta′ → Within u x x′ → Within u r r′
+    → Included (BlendValues (Inside u alpha) (Inside u beta) (Inside u x) (Inside u r)) (BlendValues (Inside u alpha′) (Inside u beta′) (Inside u x′) (Inside u r′))
