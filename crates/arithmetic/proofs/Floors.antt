@@ -29,7 +29,7 @@ floor-high n d h = rw (+ℤ-*ℤ, one-*) (floor-next n d h)
 pub le-floor : (m n d : ℤ) → pos 0 <ℤ d → (m *ℤ d) ≤ℤ n → m ≤ℤ floor n d
 le-floor m n d h k = by-ltZ (floor n d) m
     (λ l. let s : (floor n d +ℤ pos 1) ≤ℤ m = omega (arith, ints) in let z : pos 0 ≤ℤ d = omega (arith, ints) in
-        clashℤ (floor-high n d h) (≤ℤ-trans (*ℤ-mono (floor n d +ℤ pos 1) m d z s) k))
+    clashℤ (floor-high n d h) (≤ℤ-trans (*ℤ-mono (floor n d +ℤ pos 1) m d z s) k))
     (λ l. l)
 
 pub floor-negated : (n d : ℤ) → d <ℤ pos 0 → floor n d ≡ floor (negℤ n) (negℤ d)
@@ -76,10 +76,11 @@ more q n s e h = simp ring h
 floor-law : (n d : ℤ) (nonzero : d ≡ pos 0 → ⊥) → IsFloor n d (floor n d) nonzero
 floor-law n d nonzero =
     let s = sign d in let e = pos (natAbs d) in let pe = size-positive d nonzero in
-    record
-    { under = record { cross = at-most (floor n d) n s e (rw (turned n d) (floor-low (n *ℤ s) e pe)) }
-    ; next = record { cross = less (floor n d +ℤ pos 1) n s e (rw (turned n d) (floor-high (n *ℤ s) e pe)) }
-    ; greatest = λ m h. rw (turned n d) (le-floor m (n *ℤ s) e pe (at-most-out m n s e (h .cross))) }
+    record {
+      under = record { cross = at-most (floor n d) n s e (rw (turned n d) (floor-low (n *ℤ s) e pe)) };
+      next = record { cross = less (floor n d +ℤ pos 1) n s e (rw (turned n d) (floor-high (n *ℤ s) e pe)) };
+      greatest = λ m h. rw (turned n d) (le-floor m (n *ℤ s) e pe (at-most-out m n s e (h .cross)));
+    }
 
 -- the floor of the opposite, turned round
 ceiling-law : (n d : ℤ) (nonzero : d ≡ pos 0 → ⊥) → IsCeiling n d (ceiling n d) nonzero
@@ -88,15 +89,18 @@ ceiling-law n d nonzero =
     let f = floor (negℤ n) d in
     let low : (f *ℤ e) ≤ℤ (negℤ n *ℤ s) = rw (turned (negℤ n) d) (floor-low (negℤ n *ℤ s) e pe) in
     let high : (negℤ n *ℤ s) <ℤ ((f +ℤ pos 1) *ℤ e) = rw (turned (negℤ n) d) (floor-high (negℤ n *ℤ s) e pe) in
-    record
-    { over = record { cross = at-least (negℤ f) n s e (up f n s e low) }
-    ; before = record { cross = more (negℤ f -ℤ pos 1) n s e (down f n s e high) }
-    ; least = λ m h. let k : negℤ m ≤ℤ f = rw (turned (negℤ n) d) (le-floor (negℤ m) (negℤ n *ℤ s) e pe (flip m n s e (at-least-out m n s e (h .cross)))) in omega (arith, ints) }
+    record {
+      over = record { cross = at-least (negℤ f) n s e (up f n s e low) };
+      before = record { cross = more (negℤ f -ℤ pos 1) n s e (down f n s e high) };
+      least = λ m h. let k : negℤ m ≤ℤ f = rw (turned (negℤ n) d) (le-floor (negℤ m) (negℤ n *ℤ s) e pe (flip m n s e (at-least-out m n s e (h .cross)))) in omega (arith, ints);
+    }
   where
     up : (f n s e : ℤ) → (f *ℤ e) ≤ℤ (negℤ n *ℤ s) → (n *ℤ s) ≤ℤ (negℤ f *ℤ e)
     up f n s e h = simp neg-*ℤ (omega (arith, ints, simp neg-*ℤ at h))
+
     down : (f n s e : ℤ) → (negℤ n *ℤ s) <ℤ ((f +ℤ pos 1) *ℤ e) → ((negℤ f -ℤ pos 1) *ℤ e) <ℤ (n *ℤ s)
     down f n s e h = simp ring (omega (arith, ints, simp ring at h))
+
     flip : (m n s e : ℤ) → (n *ℤ s) ≤ℤ (m *ℤ e) → (negℤ m *ℤ e) ≤ℤ (negℤ n *ℤ s)
     flip m n s e h = simp neg-*ℤ (omega (arith, ints))
 

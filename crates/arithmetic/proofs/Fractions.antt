@@ -37,10 +37,12 @@ between-mul s t a b c d v w h k =
     let p = v .den in let q = w .den in let pp = v .positive in let qq = w .positive in
     let m = least4 (a *ℤ c) (a *ℤ d) (b *ℤ c) (b *ℤ d) in
     let n = greatest4 (a *ℤ c) (a *ℤ d) (b *ℤ c) (b *ℤ d) in
-    record { least = rw (swap (v .num) (w .num) s t) (mul-above-4 (m *ℤ (p *ℤ q)) (a *ℤ p) (v .num *ℤ s) (b *ℤ p) (c *ℤ q) (w .num *ℤ t) (d *ℤ q) (h .least) (h .most) (k .least) (k .most)
-        (scaled m a c p q pp qq (lo .0)) (scaled m a d p q pp qq (lo .1)) (scaled m b c p q pp qq (lo .2)) (scaled m b d p q pp qq (lo .3)))
-    ; most = rw (swap (v .num) (w .num) s t) (mul-below-4 (n *ℤ (p *ℤ q)) (a *ℤ p) (v .num *ℤ s) (b *ℤ p) (c *ℤ q) (w .num *ℤ t) (d *ℤ q) (h .least) (h .most) (k .least) (k .most)
-        (scaled′ n a c p q pp qq (hi .0)) (scaled′ n a d p q pp qq (hi .1)) (scaled′ n b c p q pp qq (hi .2)) (scaled′ n b d p q pp qq (hi .3))) }
+    record {
+      least = rw (swap (v .num) (w .num) s t) (mul-above-4 (m *ℤ (p *ℤ q)) (a *ℤ p) (v .num *ℤ s) (b *ℤ p) (c *ℤ q) (w .num *ℤ t) (d *ℤ q) (h .least) (h .most) (k .least) (k .most)
+          (scaled m a c p q pp qq (lo .0)) (scaled m a d p q pp qq (lo .1)) (scaled m b c p q pp qq (lo .2)) (scaled m b d p q pp qq (lo .3)));
+      most = rw (swap (v .num) (w .num) s t) (mul-below-4 (n *ℤ (p *ℤ q)) (a *ℤ p) (v .num *ℤ s) (b *ℤ p) (c *ℤ q) (w .num *ℤ t) (d *ℤ q) (h .least) (h .most) (k .least) (k .most)
+          (scaled′ n a c p q pp qq (hi .0)) (scaled′ n a d p q pp qq (hi .1)) (scaled′ n b c p q pp qq (hi .2)) (scaled′ n b d p q pp qq (hi .3)));
+    }
   where
     swap : (v w s t : ℤ) → (v *ℤ w) *ℤ (s *ℤ t) ≡ (v *ℤ s) *ℤ (w *ℤ t)
     swap v w s t = simp ring
@@ -69,8 +71,10 @@ between-same s a b v w e h =
     let q = weak (w .positive) in
     let l = *ℤ-mono _ _ (w .den) q (h .least) in let m = *ℤ-mono _ _ (w .den) q (h .most) in
     let e′ = ap (λ (z : ℤ). z *ℤ s) (e .cross) in
-    record { least = *ℤ-cancel _ _ (v .den) (v .positive) (simp ring (omega (arith, ints, simp ring at l, simp ring at e′)))
-           ; most = *ℤ-cancel _ _ (v .den) (v .positive) (simp ring (omega (arith, ints, simp ring at m, simp ring at e′))) }
+    record {
+      least = *ℤ-cancel _ _ (v .den) (v .positive) (simp ring (omega (arith, ints, simp ring at l, simp ring at e′)));
+      most = *ℤ-cancel _ _ (v .den) (v .positive) (simp ring (omega (arith, ints, simp ring at m, simp ring at e′)));
+    }
 
 -- ---- attained
 pub at-ratio : (a s : ℤ) (h : pos 0 <ℤ s) → At s a (ratio a s h)
@@ -82,10 +86,11 @@ at-mul s t a b v w h k = record { is = let e : (v .num *ℤ s) *ℤ (w .num *ℤ
 pub at-add : (s a b : ℤ) (v w : Fraction) → At s a v → At s b w → At s (a +ℤ b) (add v w)
 at-add s a b v w h k = record { is = let e = ap (λ (z : ℤ). z *ℤ w .den) (h .is) in let f = ap (λ (z : ℤ). z *ℤ v .den) (k .is) in simp ring (omega (arith, ints, simp ring at e, simp ring at f)) }
 
-
 pub at-same : (s a : ℤ) (v w : Fraction) → Same v w → At s a v → At s a w
-at-same s a v w e h = record { is = *ℤ-cancel-≡ _ _ (v .den) (v .positive)
-    (let f = ap (λ (z : ℤ). z *ℤ w .den) (h .is) in let g = ap (λ (z : ℤ). z *ℤ s) (e .cross) in simp ring (omega (arith, ints, simp ring at f, simp ring at g))) }
+at-same s a v w e h = record {
+  is = *ℤ-cancel-≡ _ _ (v .den) (v .positive)
+      (let f = ap (λ (z : ℤ). z *ℤ w .den) (h .is) in let g = ap (λ (z : ℤ). z *ℤ s) (e .cross) in simp ring (omega (arith, ints, simp ring at f, simp ring at g)));
+}
 
 pub at-rescale : (s t a : ℤ) (v : Fraction) → At s a v → At (s *ℤ t) (a *ℤ t) v
 at-rescale s t a v h = record { is = let f = ap (λ (z : ℤ). z *ℤ t) (h .is) in simp ring (omega (arith, ints, simp ring at f)) }
@@ -97,8 +102,10 @@ pub same-sym : (v w : Fraction) → Same v w → Same w v
 same-sym v w h = record { cross = sym (h .cross) }
 
 pub same-trans : (u v w : Fraction) → Same u v → Same v w → Same u w
-same-trans u v w h k = record { cross = *ℤ-cancel-≡ _ _ (v .den) (v .positive)
-    (let f = ap (λ (z : ℤ). z *ℤ w .den) (h .cross) in let g = ap (λ (z : ℤ). z *ℤ u .den) (k .cross) in simp ring (omega (arith, ints, simp ring at f, simp ring at g))) }
+same-trans u v w h k = record {
+  cross = *ℤ-cancel-≡ _ _ (v .den) (v .positive)
+      (let f = ap (λ (z : ℤ). z *ℤ w .den) (h .cross) in let g = ap (λ (z : ℤ). z *ℤ u .den) (k .cross) in simp ring (omega (arith, ints, simp ring at f, simp ring at g)));
+}
 
 sign-size : (n : ℤ) → sign n *ℤ n ≡ pos (natAbs n)
 sign-size (pos n) = omega (arith, ints)
@@ -113,6 +120,8 @@ pub mul-same : (v v′ w w′ : Fraction) → Same v v′ → Same w w′ → Sa
 mul-same v v′ w w′ h k = record { cross = let e : (v .num *ℤ v′ .den) *ℤ (w .num *ℤ w′ .den) ≡ (v′ .num *ℤ v .den) *ℤ (w′ .num *ℤ w .den) = cc (h .cross, k .cross) in simp ring (simp ring at e) }
 
 pub add-same : (v v′ w w′ : Fraction) → Same v v′ → Same w w′ → Same (add v w) (add v′ w′)
-add-same v v′ w w′ h k = record { cross =
-    let e = ap (λ (z : ℤ). z *ℤ (w .den *ℤ w′ .den)) (h .cross) in let f = ap (λ (z : ℤ). z *ℤ (v .den *ℤ v′ .den)) (k .cross) in
-    simp ring (omega (arith, ints, simp ring at e, simp ring at f)) }
+add-same v v′ w w′ h k = record {
+  cross =
+      let e = ap (λ (z : ℤ). z *ℤ (w .den *ℤ w′ .den)) (h .cross) in let f = ap (λ (z : ℤ). z *ℤ (v .den *ℤ v′ .den)) (k .cross) in
+      simp ring (omega (arith, ints, simp ring at e, simp ring at f));
+}

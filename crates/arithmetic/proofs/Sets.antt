@@ -26,16 +26,18 @@ pub greatest4-ind : (P : ℤ → Type 0) (a b c d : ℤ) → P a → P b → P c
 greatest4-ind P a b c d p q r s = pick (ltZ (maxZ c d) (maxZ a b)) P _ _ (pick (ltZ b a) P _ _ p q) (pick (ltZ d c) P _ _ r s)
 
 attains-mul : {S T : Set} (s t a b : ℤ) → Attains s a S → Attains t b T → Attains (s *ℤ t) (a *ℤ b) (ProductSet S T)
-attains-mul s t a b p q = record
-  { value = mul (p .value) (q .value)
-  ; member = record { left = p .value; right = q .value; in-left = p .member; in-right = q .member; is = same-refl _ }
-  ; at = at-mul s t a b (p .value) (q .value) (p .at) (q .at) }
+attains-mul s t a b p q = record {
+  value = mul (p .value) (q .value);
+  member = record { left = p .value; right = q .value; in-left = p .member; in-right = q .member; is = same-refl _ };
+  at = at-mul s t a b (p .value) (q .value) (p .at) (q .at);
+}
 
 attains-add : {S T : Set} (s a b : ℤ) → Attains s a S → Attains s b T → Attains s (a +ℤ b) (SumSet S T)
-attains-add s a b p q = record
-  { value = add (p .value) (q .value)
-  ; member = record { left = p .value; right = q .value; in-left = p .member; in-right = q .member; is = same-refl _ }
-  ; at = at-add s a b (p .value) (q .value) (p .at) (q .at) }
+attains-add s a b p q = record {
+  value = add (p .value) (q .value);
+  member = record { left = p .value; right = q .value; in-left = p .member; in-right = q .member; is = same-refl _ };
+  at = at-add s a b (p .value) (q .value) (p .at) (q .at);
+}
 
 pub exact-mul : {S T : Set} (s t a b c d : ℤ) → Exact s a b S → Exact t c d T
     → Exact (s *ℤ t) (least4 (a *ℤ c) (a *ℤ d) (b *ℤ c) (b *ℤ d)) (greatest4 (a *ℤ c) (a *ℤ d) (b *ℤ c) (b *ℤ d)) (ProductSet S T)
@@ -43,46 +45,53 @@ exact-mul {S} {T} s t a b c d p q =
     let P : ℤ → Type 0 = λ m. Attains (s *ℤ t) m (ProductSet S T) in
     let ac = attains-mul s t a c (p .low) (q .low) in let ad = attains-mul s t a d (p .low) (q .high) in
     let bc = attains-mul s t b c (p .high) (q .low) in let bd = attains-mul s t b d (p .high) (q .high) in
-    record
-    { holds = λ v h. between-same _ _ _ _ v (h .is) (between-mul s t a b c d (h .left) (h .right) (p .holds _ (h .in-left)) (q .holds _ (h .in-right)))
-    ; low = least4-ind P _ _ _ _ ac ad bc bd
-    ; high = greatest4-ind P _ _ _ _ ac ad bc bd }
+    record {
+      holds = λ v h. between-same _ _ _ _ v (h .is) (between-mul s t a b c d (h .left) (h .right) (p .holds _ (h .in-left)) (q .holds _ (h .in-right)));
+      low = least4-ind P _ _ _ _ ac ad bc bd;
+      high = greatest4-ind P _ _ _ _ ac ad bc bd;
+    }
 
 pub exact-add : {S T : Set} (s a b c d : ℤ) → Exact s a b S → Exact s c d T → Exact s (a +ℤ c) (b +ℤ d) (SumSet S T)
-exact-add s a b c d p q = record
-  { holds = λ v h. between-same _ _ _ _ v (h .is) (between-add s a b c d (h .left) (h .right) (p .holds _ (h .in-left)) (q .holds _ (h .in-right)))
-  ; low = attains-add s a c (p .low) (q .low)
-  ; high = attains-add s b d (p .high) (q .high) }
+exact-add s a b c d p q = record {
+  holds = λ v h. between-same _ _ _ _ v (h .is) (between-add s a b c d (h .left) (h .right) (p .holds _ (h .in-left)) (q .holds _ (h .in-right)));
+  low = attains-add s a c (p .low) (q .low);
+  high = attains-add s b d (p .high) (q .high);
+}
 
 pub exact-rescale : {S : Set} (s t a b : ℤ) → pos 0 ≤ℤ t → Exact s a b S → Exact (s *ℤ t) (a *ℤ t) (b *ℤ t) S
-exact-rescale s t a b z p = record
-  { holds = λ v h. between-rescale s t a b v z (p .holds v h)
-  ; low = record { value = p .low .value; member = p .low .member; at = at-rescale s t a _ (p .low .at) }
-  ; high = record { value = p .high .value; member = p .high .member; at = at-rescale s t b _ (p .high .at) } }
+exact-rescale s t a b z p = record {
+  holds = λ v h. between-rescale s t a b v z (p .holds v h);
+  low = record { value = p .low .value; member = p .low .member; at = at-rescale s t a _ (p .low .at) };
+  high = record { value = p .high .value; member = p .high .member; at = at-rescale s t b _ (p .high .at) };
+}
 
 -- whole bounds are attained by their own fractions
 pub exact-between : (U a b : ℤ) → pos 0 <ℤ U → a ≤ℤ b → Exact U a b (Between U a b)
 exact-between U a b u h =
     let m = *ℤ-mono a b U (weak u) h in
-    record
-    { holds = λ v k. k
-    ; low = record { value = ratio a U u; member = record { least = omega (arith, ints); most = m }; at = at-ratio a U u }
-    ; high = record { value = ratio b U u; member = record { least = m; most = omega (arith, ints) }; at = at-ratio b U u } }
+    record {
+      holds = λ v k. k;
+      low = record { value = ratio a U u; member = record { least = omega (arith, ints); most = m }; at = at-ratio a U u };
+      high = record { value = ratio b U u; member = record { least = m; most = omega (arith, ints) }; at = at-ratio b U u };
+    }
 
 pub exact-zero : (s : ℤ) → Exact s (pos 0) (pos 0) ZeroSet
-exact-zero s = record
-  { holds = λ v h. record { least = rw (h, zero-*ℤ) (omega (arith, ints)); most = rw (h, zero-*ℤ) (omega (arith, ints)) }
-  ; low = record { value = ratio (pos 0) (pos 1) (omega (arith, ints)); member = refl; at = record { is = zero-*ℤ s } }
-  ; high = record { value = ratio (pos 0) (pos 1) (omega (arith, ints)); member = refl; at = record { is = zero-*ℤ s } } }
+exact-zero s = record {
+  holds = λ v h. record { least = rw (h, zero-*ℤ) (omega (arith, ints)); most = rw (h, zero-*ℤ) (omega (arith, ints)) };
+  low = record { value = ratio (pos 0) (pos 1) (omega (arith, ints)); member = refl; at = record { is = zero-*ℤ s } };
+  high = record { value = ratio (pos 0) (pos 1) (omega (arith, ints)); member = refl; at = record { is = zero-*ℤ s } };
+}
 
 pub exact-negative : {S : Set} (s a b : ℤ) → Exact s a b S → Exact s (negℤ b) (negℤ a) (NegativeSet S)
-exact-negative s a b p = record
-  { holds = λ v h. between-same _ _ _ _ v (h .is) (turned (h .of) (p .holds _ (h .in-of)))
-  ; low = record { value = negative (p .high .value); member = record { of = p .high .value; in-of = p .high .member; is = same-refl _ }; at = at-negative b (p .high .value) (p .high .at) }
-  ; high = record { value = negative (p .low .value); member = record { of = p .low .value; in-of = p .low .member; is = same-refl _ }; at = at-negative a (p .low .value) (p .low .at) } }
+exact-negative s a b p = record {
+  holds = λ v h. between-same _ _ _ _ v (h .is) (turned (h .of) (p .holds _ (h .in-of)));
+  low = record { value = negative (p .high .value); member = record { of = p .high .value; in-of = p .high .member; is = same-refl _ }; at = at-negative b (p .high .value) (p .high .at) };
+  high = record { value = negative (p .low .value); member = record { of = p .low .value; in-of = p .low .member; is = same-refl _ }; at = at-negative a (p .low .value) (p .low .at) };
+}
   where
     turned : (v : Fraction) → Between s a b v → Between s (negℤ b) (negℤ a) (negative v)
     turned v h = let k = h .least in let l = h .most in record { least = simp neg-*ℤ (omega (arith, ints)); most = simp neg-*ℤ (omega (arith, ints)) }
+
     at-negative : (c : ℤ) (v : Fraction) → At s c v → At s (negℤ c) (negative v)
     at-negative c v h = record { is = simp neg-*ℤ (ap negℤ (h .is)) }
 

@@ -3,7 +3,7 @@ use Prim.Native.Nat.{ℕ, zero, suc, _+_, _*_, _^_, _<_, _≤_}
 use mathlib.Core.Path.{_≡_, refl, ap, sym, _∙_, subst}
 use mathlib.Core.Bool.{cond}
 use native.Mathlib.Numerals.{add-one}
-use native.Mathlib.Nat.{zero-add, mul-add, mul-one}
+use native.Mathlib.Nat.{mul-add, mul-one}
 use native.Mathlib.Omega.{arith}
 use mir.Val.{SFits}
 use mir.Syntax.{w64}
@@ -79,12 +79,12 @@ pub small-more : (m n : ℕ) (x : Value) → m ≤ n → Small m x → Small n x
 small-more m n empty le h = tt
 small-more m n (bounds a b) le h = (omega arith, omega arith)
 
--- ---- a loop that sums: one term more, each at most m in size
-pub total-more : (f : ℕ → Value) (m j : ℕ) (sofar term all : Value) → sofar ≡ total f 0 j → term ≡ f j → all ≡ plus sofar term → Small (m * j) sofar → Small m term
-    → (all ≡ total f 0 (j + 1)) × Small (m * (j + 1)) all
-total-more f m j sofar term all s t a h k =
-    let P : Value → Type 0 = Small (m * (j + 1)) in
-    (a ∙ rw (add-one, zero-add, s, t) refl, subst P (sym a) (small-more (m * j + m) (m * (j + 1)) (plus sofar term) (room m j) (small-plus (m * j) m sofar term h k)))
+-- ---- a loop that sums: after k terms one more, the place j, each at most m in size
+pub total-more : (f : ℕ → Value) (m from k j n : ℕ) (sofar term all : Value) → from + k ≡ j → n ≡ k + 1 → sofar ≡ total f from k → term ≡ f j → all ≡ plus sofar term → Small (m * k) sofar → Small m term
+    → (all ≡ total f from n) × Small (m * n) all
+total-more f m from k j n sofar term all p q s t a h i =
+    let P : Value → Type 0 = Small (m * n) in
+    (a ∙ rw (q, add-one, p, s, t) refl, subst P (sym a) (small-more (m * k + m) (m * n) (plus sofar term) (rw q (room m k)) (small-plus (m * k) m sofar term h i)))
   where
-    room : (m j : ℕ) → m * j + m ≤ m * (j + 1)
-    room m j = omega (arith, mul-add m j 1, mul-one m)
+    room : (m k : ℕ) → m * k + m ≤ m * (k + 1)
+    room m k = omega (arith, mul-add m k 1, mul-one m)

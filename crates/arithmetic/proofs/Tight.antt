@@ -28,32 +28,44 @@ pub *ℤ-cancel-< : (a b y : ℤ) → pos 0 <ℤ y → (a *ℤ y) <ℤ (b *ℤ y
 
 -- ---- rounding
 round-along : (S : Set) (s t a b : ℤ) → pos 0 <ℤ t → Exact (s *ℤ t) a b S → Tight s (floor a t) (ceiling b t) S
-round-along S s t a b h e = record
-  { holds = λ v m. let k = e .holds v m in
+round-along S s t a b h e = record {
+  holds = λ v m. let k = e .holds v m in
       let p = *ℤ-mono _ _ (v .den) (weak (v .positive)) (floor-low a t h) in
       let q = *ℤ-mono _ _ (v .den) (weak (v .positive)) (ceiling-high b t h) in
-      record { least = *ℤ-cancel _ _ t h (let l = k .least in simp ring (omega (arith, ints, simp ring at p, simp ring at l)))
-             ; most = *ℤ-cancel _ _ t h (let l = k .most in simp ring (omega (arith, ints, simp ring at q, simp ring at l))) }
-  ; low = let v = e .low .value in let i = e .low .at .is in
+      record {
+        least = *ℤ-cancel _ _ t h (let l = k .least in simp ring (omega (arith, ints, simp ring at p, simp ring at l)));
+        most = *ℤ-cancel _ _ t h (let l = k .most in simp ring (omega (arith, ints, simp ring at q, simp ring at l)));
+      };
+  low = let v = e .low .value in let i = e .low .at .is in
       let p = *ℤ-mono-< _ _ (v .den) (v .positive) (floor-next a t h) in
-      record { value = v; member = e .low .member
-             ; near = *ℤ-cancel-< _ _ t h (simp ring (omega (arith, ints, simp ring at p, simp ring at i))) }
-  ; high = let v = e .high .value in let i = e .high .at .is in
+      record {
+        value = v;
+        member = e .low .member;
+        near = *ℤ-cancel-< _ _ t h (simp ring (omega (arith, ints, simp ring at p, simp ring at i)));
+      };
+  high = let v = e .high .value in let i = e .high .at .is in
       let p = *ℤ-mono-< _ _ (v .den) (v .positive) (ceiling-next b t h) in
-      record { value = v; member = e .high .member
-             ; near = *ℤ-cancel-< _ _ t h (simp ring (omega (arith, ints, simp ring at p, simp ring at i))) } }
+      record {
+        value = v;
+        member = e .high .member;
+        near = *ℤ-cancel-< _ _ t h (simp ring (omega (arith, ints, simp ring at p, simp ring at i)));
+      };
+}
 
 -- the opposite scale turns the bounds round
 turned : {S : Set} (s t a b : ℤ) → Exact (s *ℤ t) a b S → Exact (s *ℤ negℤ t) (negℤ b) (negℤ a) S
-turned s t a b e = record
-  { holds = λ v m. let k = e .holds v m in record { least = below s t b (v .num) (v .den) (k .most); most = above s t a (v .num) (v .den) (k .least) }
-  ; low = record { value = e .high .value; member = e .high .member; at = record { is = same s t b (e .high .value .num) (e .high .value .den) (e .high .at .is) } }
-  ; high = record { value = e .low .value; member = e .low .member; at = record { is = same s t a (e .low .value .num) (e .low .value .den) (e .low .at .is) } } }
+turned s t a b e = record {
+  holds = λ v m. let k = e .holds v m in record { least = below s t b (v .num) (v .den) (k .most); most = above s t a (v .num) (v .den) (k .least) };
+  low = record { value = e .high .value; member = e .high .member; at = record { is = same s t b (e .high .value .num) (e .high .value .den) (e .high .at .is) } };
+  high = record { value = e .low .value; member = e .low .member; at = record { is = same s t a (e .low .value .num) (e .low .value .den) (e .low .at .is) } };
+}
   where
     below : (s t b n d : ℤ) → (n *ℤ (s *ℤ t)) ≤ℤ (b *ℤ d) → (negℤ b *ℤ d) ≤ℤ (n *ℤ (s *ℤ negℤ t))
     below s t b n d h = simp ring (omega (arith, ints, simp ring at h))
+
     above : (s t a n d : ℤ) → (a *ℤ d) ≤ℤ (n *ℤ (s *ℤ t)) → (n *ℤ (s *ℤ negℤ t)) ≤ℤ (negℤ a *ℤ d)
     above s t a n d h = simp ring (omega (arith, ints, simp ring at h))
+
     same : (s t a n d : ℤ) → n *ℤ (s *ℤ t) ≡ a *ℤ d → n *ℤ (s *ℤ negℤ t) ≡ negℤ a *ℤ d
     same s t a n d h = let g = ap negℤ h in simp ring (simp ring at g)
 
@@ -66,11 +78,12 @@ round-law S s (negsuc t) a b nonzero e =
 
 -- ---- the growth law: a larger set has wider bounds
 pub mono-law : (S T : Set) (s a b c d : ℤ) → ((v : Fraction) → S v → T v) → Tight s a b S → Tight s c d T → (c ≤ℤ a) × (b ≤ℤ d)
-mono-law S T s a b c d i p q =
-    ( let v = p .low .value in let k = q .holds v (i v (p .low .member)) .least in let n = p .low .near in
-      let l : c <ℤ (a +ℤ pos 1) = *ℤ-cancel-< _ _ (v .den) (v .positive) (omega (arith, ints)) in omega (arith, ints)
-    , let v = p .high .value in let k = q .holds v (i v (p .high .member)) .most in let n = p .high .near in
-      let l : (b -ℤ pos 1) <ℤ d = *ℤ-cancel-< _ _ (v .den) (v .positive) (omega (arith, ints)) in omega (arith, ints) )
+mono-law S T s a b c d i p q = (
+  let v = p .low .value in let k = q .holds v (i v (p .low .member)) .least in let n = p .low .near in
+      let l : c <ℤ (a +ℤ pos 1) = *ℤ-cancel-< _ _ (v .den) (v .positive) (omega (arith, ints)) in omega (arith, ints),
+  let v = p .high .value in let k = q .holds v (i v (p .high .member)) .most in let n = p .high .near in
+      let l : (b -ℤ pos 1) <ℤ d = *ℤ-cancel-< _ _ (v .den) (v .positive) (omega (arith, ints)) in omega (arith, ints),
+)
 
 -- ---- quotients
 -- z times w is v; v at scale s·t is at least a, w at scale s from c to d, all above 0
@@ -87,7 +100,7 @@ quotient-least s t a c d L v w z ps pc hv hw e lc ld =
     let step4 = ap (λ (x : ℤ). x *ℤ (s *ℤ t)) (e .cross) in
     let pw0 : pos 0 <ℤ (w .num *ℤ s) = (let q = *ℤ-pos c (w .den) pc (w .positive) in let k = hw .least in omega (arith, ints)) in
     *ℤ-cancel _ _ ((w .num *ℤ s) *ℤ v .den) (*ℤ-pos _ (v .den) pw0 (v .positive))
-      (simp ring (omega (arith, ints, simp ring at step2, simp ring at step3, simp ring at step4)))
+    (simp ring (omega (arith, ints, simp ring at step2, simp ring at step3, simp ring at step4)))
 
 pub quotient-most : (s t b c d H : ℤ) (v w z : Fraction) → pos 0 <ℤ s → pos 0 <ℤ c → (v .num *ℤ (s *ℤ t)) ≤ℤ (b *ℤ v .den) → Between s c d w → Same (mul z w) v
     → b ≤ℤ (H *ℤ c) → b ≤ℤ (H *ℤ d) → (z .num *ℤ t) ≤ℤ (H *ℤ z .den)
@@ -102,7 +115,7 @@ quotient-most s t b c d H v w z ps pc hv hw e lc ld =
     let step4 = ap (λ (x : ℤ). x *ℤ (s *ℤ t)) (e .cross) in
     let pw0 : pos 0 <ℤ (w .num *ℤ s) = (let q = *ℤ-pos c (w .den) pc (w .positive) in let k = hw .least in omega (arith, ints)) in
     *ℤ-cancel _ _ ((w .num *ℤ s) *ℤ v .den) (*ℤ-pos _ (v .den) pw0 (v .positive))
-      (simp ring (omega (arith, ints, simp ring at step2, simp ring at step3, simp ring at step4)))
+    (simp ring (omega (arith, ints, simp ring at step2, simp ring at step3, simp ring at step4)))
 
 ends : (s c d : ℤ) (w : Fraction) → Between s c d w → c ≤ℤ d
 ends s c d w h = *ℤ-cancel c d (w .den) (w .positive) (≤ℤ-trans (h .least) (h .most))
@@ -118,11 +131,12 @@ positive-case : (s t a b c d : ℤ) (v w z : Fraction) → pos 0 <ℤ s → pos 
 unfolding least-quotient greatest-quotient
 positive-case s t a b c d v w z ps pc hv hw e =
     let cd = ends s c d w hw in let pd : pos 0 <ℤ d = omega (arith, ints) in
-    record
-    { least = quotient-least s t a c d (least-quotient a b c d) v w z ps pc (hv .least) hw e
-        (under _ (floor a c) a c pc (omega (arith, ints, clamps)) (floor-low a c pc)) (under _ (floor a d) a d pd (omega (arith, ints, clamps)) (floor-low a d pd))
-    ; most = quotient-most s t b c d (greatest-quotient a b c d) v w z ps pc (hv .most) hw e
-        (beyond _ (ceiling b c) b c pc (omega (arith, ints, clamps)) (ceiling-high b c pc)) (beyond _ (ceiling b d) b d pd (omega (arith, ints, clamps)) (ceiling-high b d pd)) }
+    record {
+      least = quotient-least s t a c d (least-quotient a b c d) v w z ps pc (hv .least) hw e
+          (under _ (floor a c) a c pc (omega (arith, ints, clamps)) (floor-low a c pc)) (under _ (floor a d) a d pd (omega (arith, ints, clamps)) (floor-low a d pd));
+      most = quotient-most s t b c d (greatest-quotient a b c d) v w z ps pc (hv .most) hw e
+          (beyond _ (ceiling b c) b c pc (omega (arith, ints, clamps)) (ceiling-high b c pc)) (beyond _ (ceiling b d) b d pd (omega (arith, ints, clamps)) (ceiling-high b d pd));
+    }
 
 between-negative : (s a b : ℤ) (v : Fraction) → Between s a b v → Between s (negℤ b) (negℤ a) (negative v)
 between-negative s a b v h = let k = h .least in let l = h .most in record { least = simp ring (omega (arith, ints)); most = simp ring (omega (arith, ints)) }
@@ -143,6 +157,7 @@ negative-case s t a b c d v w z ps nd hv hw e =
   where
     low4 : {p q r s p′ q′ r′ s′ : ℤ} → p ≡ p′ → q ≡ q′ → r ≡ r′ → s ≡ s′ → least4 p q r s ≤ℤ least4 s′ r′ q′ p′
     low4 e f g h = omega (arith, ints, clamps)
+
     high4 : {p q r s p′ q′ r′ s′ : ℤ} → p ≡ p′ → q ≡ q′ → r ≡ r′ → s ≡ s′ → greatest4 s′ r′ q′ p′ ≤ℤ greatest4 p q r s
     high4 e f g h = omega (arith, ints, clamps)
 
@@ -150,7 +165,7 @@ negative-case s t a b c d v w z ps nd hv hw e =
 corner : (s t x y : ℤ) (v w z : Fraction) → At (s *ℤ t) x v → At s y w → Same (mul z w) v → (z .num *ℤ t) *ℤ y ≡ x *ℤ z .den
 corner s t x y v w z hv hw e = *ℤ-cancel-≡ _ _ (w .den *ℤ v .den) (*ℤ-pos (w .den) (v .den) (w .positive) (v .positive))
     (let f = ap (λ (n : ℤ). n *ℤ (z .num *ℤ (t *ℤ v .den))) (hw .is) in let g = ap (λ (n : ℤ). n *ℤ (z .den *ℤ w .den)) (hv .is) in let k = ap (λ (n : ℤ). n *ℤ (s *ℤ t)) (e .cross) in
-     simp ring (omega (arith, ints, simp ring at f, simp ring at g, simp ring at k)))
+    simp ring (omega (arith, ints, simp ring at f, simp ring at g, simp ring at k)))
 
 near-floor⁺ : (n x y d : ℤ) → pos 0 <ℤ y → pos 0 <ℤ d → n *ℤ y ≡ x *ℤ d → n <ℤ ((floor x y +ℤ pos 1) *ℤ d)
 near-floor⁺ n x y d py pd e = let f = *ℤ-mono-< _ _ d pd (floor-next x y py) in *ℤ-cancel-< _ _ y py (simp ring (omega (arith, ints, simp ring at f)))
@@ -172,14 +187,20 @@ nonzero-at s y w ny h e = ny (*ℤ-cancel-≡ y (pos 0) (w .den) (w .positive) (
 above-corner : {S T : Set} (s t x y : ℤ) → (y ≡ pos 0 → ⊥) → Attains (s *ℤ t) x S → Attains s y T → Above t (floor x y) (QuotientSet S T)
 above-corner s t x y ny p q =
     let v = p .value in let w = q .value in let nz = nonzero-at s y w ny (q .at) in let z = quotient v w nz in
-    record { value = z; member = record { dividend = v; divisor = w; in-dividend = p .member; in-divisor = q .member; is = quotient-is v w nz }
-           ; near = near-floor _ x y (z .den) ny (z .positive) (corner s t x y v w z (p .at) (q .at) (quotient-is v w nz)) }
+    record {
+      value = z;
+      member = record { dividend = v; divisor = w; in-dividend = p .member; in-divisor = q .member; is = quotient-is v w nz };
+      near = near-floor _ x y (z .den) ny (z .positive) (corner s t x y v w z (p .at) (q .at) (quotient-is v w nz));
+    }
 
 below-corner : {S T : Set} (s t x y : ℤ) → (y ≡ pos 0 → ⊥) → Attains (s *ℤ t) x S → Attains s y T → Below t (ceiling x y) (QuotientSet S T)
 below-corner s t x y ny p q =
     let v = p .value in let w = q .value in let nz = nonzero-at s y w ny (q .at) in let z = quotient v w nz in
-    record { value = z; member = record { dividend = v; divisor = w; in-dividend = p .member; in-divisor = q .member; is = quotient-is v w nz }
-           ; near = near-ceiling _ x y (z .den) ny (z .positive) (corner s t x y v w z (p .at) (q .at) (quotient-is v w nz)) }
+    record {
+      value = z;
+      member = record { dividend = v; divisor = w; in-dividend = p .member; in-divisor = q .member; is = quotient-is v w nz };
+      near = near-ceiling _ x y (z .den) ny (z .positive) (corner s t x y v w z (p .at) (q .at) (quotient-is v w nz));
+    }
 
 -- the quotient law: four quotients of bounds, by a divisor on one side of 0
 pub quotient-law : (S T : Set) (s t a b c d : ℤ) → pos 0 <ℤ s → (pos 0 <ℤ c) ⊎ (d <ℤ pos 0)
@@ -191,19 +212,21 @@ quotient-law S T s t a b c d ps sgn p q =
     let nd : d ≡ pos 0 → ⊥ = ⊎-elim (λ h e. omega (arith, ints)) (λ h e. omega (arith, ints)) sgn in
     let P : ℤ → Type 0 = λ m. Above t m (QuotientSet S T) in
     let Q : ℤ → Type 0 = λ m. Below t m (QuotientSet S T) in
-    record
-    { holds = λ z h. ⊎-elim
-        (λ k. positive-case s t a b c d (h .dividend) (h .divisor) z ps k (p .holds _ (h .in-dividend)) (q .holds _ (h .in-divisor)) (h .is))
-        (λ k. negative-case s t a b c d (h .dividend) (h .divisor) z ps k (p .holds _ (h .in-dividend)) (q .holds _ (h .in-divisor)) (h .is)) sgn
-    ; low = least4-ind P _ _ _ _ (above-corner s t a c nc (p .low) (q .low)) (above-corner s t a d nd (p .low) (q .high)) (above-corner s t b c nc (p .high) (q .low)) (above-corner s t b d nd (p .high) (q .high))
-    ; high = greatest4-ind Q _ _ _ _ (below-corner s t a c nc (p .low) (q .low)) (below-corner s t a d nd (p .low) (q .high)) (below-corner s t b c nc (p .high) (q .low)) (below-corner s t b d nd (p .high) (q .high)) }
+    record {
+      holds = λ z h. ⊎-elim
+          (λ k. positive-case s t a b c d (h .dividend) (h .divisor) z ps k (p .holds _ (h .in-dividend)) (q .holds _ (h .in-divisor)) (h .is))
+          (λ k. negative-case s t a b c d (h .dividend) (h .divisor) z ps k (p .holds _ (h .in-dividend)) (q .holds _ (h .in-divisor)) (h .is)) sgn;
+      low = least4-ind P _ _ _ _ (above-corner s t a c nc (p .low) (q .low)) (above-corner s t a d nd (p .low) (q .high)) (above-corner s t b c nc (p .high) (q .low)) (above-corner s t b d nd (p .high) (q .high));
+      high = greatest4-ind Q _ _ _ _ (below-corner s t a c nc (p .low) (q .low)) (below-corner s t a d nd (p .low) (q .high)) (below-corner s t b c nc (p .high) (q .low)) (below-corner s t b d nd (p .high) (q .high));
+    }
 
 -- attained bounds are near
 pub exact-tight : {S : Set} (s a b : ℤ) → Exact s a b S → Tight s a b S
-exact-tight s a b e = record
-  { holds = e .holds
-  ; low = let v = e .low .value in let i = e .low .at .is in record { value = v; member = e .low .member; near = let p = v .positive in simp (+ℤ-*ℤ, one-*) (omega (arith, ints)) }
-  ; high = let v = e .high .value in let i = e .high .at .is in record { value = v; member = e .high .member; near = let p = v .positive in simp (+ℤ-*ℤ, neg-*ℤ, one-*) (omega (arith, ints)) } }
+exact-tight s a b e = record {
+  holds = e .holds;
+  low = let v = e .low .value in let i = e .low .at .is in record { value = v; member = e .low .member; near = let p = v .positive in simp (+ℤ-*ℤ, one-*) (omega (arith, ints)) };
+  high = let v = e .high .value in let i = e .high .at .is in record { value = v; member = e .high .member; near = let p = v .positive in simp (+ℤ-*ℤ, neg-*ℤ, one-*) (omega (arith, ints)) };
+}
 
 -- bounds near a set that they hold are in order
 pub tight-order : {S : Set} (s a b : ℤ) → Tight s a b S → a ≤ℤ b

@@ -6,5 +6,4 @@ ghost use Rattle.arithmetic.specs.Rounding.{Laws};
 // for every divisor but 0.
 pub fn laws_stand()
     ensures { λ _. ⌜ Laws ⌝ }
-{
-}
+{}

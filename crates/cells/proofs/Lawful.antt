@@ -46,12 +46,12 @@ dot-tight u alpha beta r xs ys n z oa ob or ox oy =
 dot-grows : (u : ℤ) (alpha beta r alpha′ beta′ r′ : Value) (xs ys xs′ ys′ : ℕ → Value) (n : ℕ) → Within u alpha alpha′ → Within u beta beta′ → Within u r r′
     → ((j : ℕ) → j < n → Within u (xs j) (xs′ j)) → ((j : ℕ) → j < n → Within u (ys j) (ys′ j))
     → Included (DotValues (Inside u alpha) (Inside u beta) (Inside u r) (λ j. Inside u (xs j)) (λ j. Inside u (ys j)) n)
-               (DotValues (Inside u alpha′) (Inside u beta′) (Inside u r′) (λ j. Inside u (xs′ j)) (λ j. Inside u (ys′ j)) n)
+    (DotValues (Inside u alpha′) (Inside u beta′) (Inside u r′) (λ j. Inside u (xs′ j)) (λ j. Inside u (ys′ j)) n)
 dot-grows u alpha beta r alpha′ beta′ r′ xs ys xs′ ys′ n ia ib ir ix iy =
     sums-grow (products-grow ib ir)
-      (products-grow ia
-        (totals-grow (λ j. ProductSet (Inside u (xs j)) (Inside u (ys j))) (λ j. ProductSet (Inside u (xs′ j)) (Inside u (ys′ j))) 0 n
-          (λ j b c. products-grow (ix j (omega (arith, c))) (iy j (omega (arith, c))))))
+    (products-grow ia
+    (totals-grow (λ j. ProductSet (Inside u (xs j)) (Inside u (ys j))) (λ j. ProductSet (Inside u (xs′ j)) (Inside u (ys′ j))) 0 n
+    (λ j b c. products-grow (ix j (omega (arith, c))) (iy j (omega (arith, c))))))
 
 sum-tight : (u : ℤ) (xs : ℕ → Value) (n : ℕ) → pos 0 <ℤ u → ((j : ℕ) → j < n → Ordered (xs j)) → Tightly u (SumValues (λ j. Inside u (xs j)) n) (sum-cell xs n)
 sum-tight u xs n z o = exactly-tightly (exactly-total u (λ j. Inside u (xs j)) xs 0 n (λ j b c. exactly-inside u (xs j) z (o j (omega (arith, c)))))
@@ -115,6 +115,7 @@ kept-is (bounds a b) r o e = go (beyond a) (beyond b) refl refl e
   where
     never : {X : Type 0} (f : RoundingFault) → _≡_ {A = Result Record RoundingFault} (Err f) (Ok r) → X
     never f e = let z : _≡_ {A = ℕ} 0 1 = cc in absurd (omega arith)
+
     go : (s t : Bool) → beyond a ≡ s → beyond b ≡ t → kept-by a b s t ≡ Ok r → IsCell (bounds a b) × (r ≡ written (bounds a b))
     go true t x y e = never (record { bound = Lower }) e
     go false true x y e = never (record { bound = Upper }) e
@@ -132,17 +133,18 @@ nested-told (bounds a b) empty h = absurd h
 nested-told (bounds a b) (bounds c d) h = and-from (leZ c a) (leZ b d) (true-leZ c a (h .0)) (true-leZ b d (h .1))
 
 pub laws : Laws
-laws = record
-  { read-cell = read-cell
-  ; read-written = read-written
-  ; kept-cell = kept-cell
-  ; kept-is = kept-is
-  ; nested-within = λ u a b e. nested-within u a b (told-nested a b e)
-  ; within-nested = λ u a b z o w. nested-told a b (within-nested u a b z o w)
-  ; inside-tight = λ u c z o. exactly-tightly (exactly-inside u c z o)
-  ; dot-tight = dot-tight
-  ; dot-grows = dot-grows
-  ; sum-tight = sum-tight
-  ; sum-grows = sum-grows
-  ; blend-tight = blend-tight
-  ; blend-grows = blend-grows }
+laws = record {
+  read-cell = read-cell;
+  read-written = read-written;
+  kept-cell = kept-cell;
+  kept-is = kept-is;
+  nested-within = λ u a b e. nested-within u a b (told-nested a b e);
+  within-nested = λ u a b z o w. nested-told a b (within-nested u a b z o w);
+  inside-tight = λ u c z o. exactly-tightly (exactly-inside u c z o);
+  dot-tight = dot-tight;
+  dot-grows = dot-grows;
+  sum-tight = sum-tight;
+  sum-grows = sum-grows;
+  blend-tight = blend-tight;
+  blend-grows = blend-grows;
+}

@@ -1,6 +1,6 @@
--- Sizes of cells and of squared scales. Assumes nothing.
+-- Sizes of cells, of sums of products and of squared scales. Assumes nothing.
 use mathlib.Core.Path.{_≡_}
-use Prim.Native.Nat.{ℕ, _*_, _≤_}
+use Prim.Native.Nat.{ℕ, _*_, _^_, _≤_}
 use native.Mathlib.Omega.{arith}
 use lib.IntN.{ℤ, pos, negsuc, natAbs, _*ℤ_}
 use lib.Signed.{_≤ℤ_, _<ℤ_}
@@ -8,9 +8,13 @@ use Rattle.std.proofs.shelf.Bits.{mul-le}
 use Rattle.std.proofs.shelf.Signed.{ints}
 use Rattle.arithmetic.specs.Values.{bounds, Small}
 use Rattle.cells.specs.declared.cell.Interval.{Interval}
+use Rattle.cells.specs.declared.cell.Totals.{Totals}
 
 pub small-interval : (i : Interval) → Small 131071 (bounds (i .lower) (i .upper))
 small-interval i = let a = i .low in let b = i .order in let d = i .high in (omega (arith, ints), omega (arith, ints))
+
+pub small-totals : (t : Totals) → Small (2 ^ 44) (bounds (t .least) (t .greatest))
+small-totals t = (omega (arith, t .«least_size»), omega (arith, t .«greatest_size»))
 
 pub square : (z : ℤ) → pos 1 ≤ℤ z → z ≤ℤ pos 100000 → (pos 0 <ℤ (z *ℤ z)) × ((z *ℤ z) ≤ℤ pos 10000000000)
 square (pos n) h k =

@@ -9,18 +9,30 @@ use Rattle.arithmetic.specs.Values.{Value, empty, bounds}
 use Rattle.cells.specs.declared.cell.Cell.{Cell}
 use Rattle.cells.specs.declared.cell.Cell.the-variants as cell
 use Rattle.cells.specs.declared.cell.Record.{Record}
+use Rattle.cells.specs.declared.cell.Loose.{Loose}
+use Rattle.cells.specs.declared.cell.Loose.the-variants as loose
 use Rattle.cells.specs.declared.cell.Sum.{Sum}
 use Rattle.cells.specs.declared.cell.Sum.the-variants as sum
+use Rattle.cells.specs.declared.cell.Total.{Total}
+use Rattle.cells.specs.declared.cell.Total.the-variants as total
 
 -- what a cell of the code stands for
 abbrev pub cell-value : Cell → Value
 cell-value cell.Empty = empty
 cell-value (cell.Bounds i) = bounds (i .lower) (i .upper)
 
--- what an unrounded sum of the code stands for
+-- what the unrounded sums of the code stand for
+abbrev pub total-value : Total → Value
+total-value total.Empty = empty
+total-value (total.Bounds t) = bounds (t .least) (t .greatest)
+
 abbrev pub sum-value : Sum → Value
 sum-value sum.Empty = empty
-sum-value (sum.Bounds a b) = bounds a b
+sum-value (sum.Bounds s) = bounds (s .least .value) (s .greatest .value)
+
+abbrev pub loose-value : Loose → Value
+loose-value loose.Empty = empty
+loose-value (loose.Bounds a b) = bounds a b
 
 -- the rule of a cell: empty, or bounds in order, neither beyond the limit of 131,071 in size
 abbrev pub IsCell : Value → Type 0

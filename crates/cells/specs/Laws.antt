@@ -28,17 +28,17 @@ pub record Laws : Type 0 where
   pub inside-tight : (u : ℤ) (c : Value) → pos 0 <ℤ u → Ordered c → Tightly u (Inside u c) c
   -- dot
   pub dot-tight : (u : ℤ) (alpha beta r : Value) (xs ys : ℕ → Value) (n : ℕ) → pos 0 <ℤ u → Ordered alpha → Ordered beta → Ordered r
-    → ((j : ℕ) → j < n → Ordered (xs j)) → ((j : ℕ) → j < n → Ordered (ys j))
-    → Tightly u (DotValues (Inside u alpha) (Inside u beta) (Inside u r) (λ j. Inside u (xs j)) (λ j. Inside u (ys j)) n) (dot-cell u alpha beta r xs ys n)
+      → ((j : ℕ) → j < n → Ordered (xs j)) → ((j : ℕ) → j < n → Ordered (ys j))
+      → Tightly u (DotValues (Inside u alpha) (Inside u beta) (Inside u r) (λ j. Inside u (xs j)) (λ j. Inside u (ys j)) n) (dot-cell u alpha beta r xs ys n)
   pub dot-grows : (u : ℤ) (alpha beta r alpha′ beta′ r′ : Value) (xs ys xs′ ys′ : ℕ → Value) (n : ℕ) → Within u alpha alpha′ → Within u beta beta′ → Within u r r′
-    → ((j : ℕ) → j < n → Within u (xs j) (xs′ j)) → ((j : ℕ) → j < n → Within u (ys j) (ys′ j))
-    → Included (DotValues (Inside u alpha) (Inside u beta) (Inside u r) (λ j. Inside u (xs j)) (λ j. Inside u (ys j)) n)
-               (DotValues (Inside u alpha′) (Inside u beta′) (Inside u r′) (λ j. Inside u (xs′ j)) (λ j. Inside u (ys′ j)) n)
+      → ((j : ℕ) → j < n → Within u (xs j) (xs′ j)) → ((j : ℕ) → j < n → Within u (ys j) (ys′ j))
+      → Included (DotValues (Inside u alpha) (Inside u beta) (Inside u r) (λ j. Inside u (xs j)) (λ j. Inside u (ys j)) n)
+      (DotValues (Inside u alpha′) (Inside u beta′) (Inside u r′) (λ j. Inside u (xs′ j)) (λ j. Inside u (ys′ j)) n)
   -- sum
   pub sum-tight : (u : ℤ) (xs : ℕ → Value) (n : ℕ) → pos 0 <ℤ u → ((j : ℕ) → j < n → Ordered (xs j)) → Tightly u (SumValues (λ j. Inside u (xs j)) n) (sum-cell xs n)
   pub sum-grows : (u : ℤ) (xs xs′ : ℕ → Value) (n : ℕ) → ((j : ℕ) → j < n → Within u (xs j) (xs′ j)) → Included (SumValues (λ j. Inside u (xs j)) n) (SumValues (λ j. Inside u (xs′ j)) n)
   -- blend
   pub blend-tight : (u : ℤ) (alpha beta x r : Value) → pos 0 <ℤ u → Ordered alpha → Ordered beta → Ordered x → Ordered r
-    → Tightly u (BlendValues (Inside u alpha) (Inside u beta) (Inside u x) (Inside u r)) (blend-cell u alpha beta x r)
+      → Tightly u (BlendValues (Inside u alpha) (Inside u beta) (Inside u x) (Inside u r)) (blend-cell u alpha beta x r)
   pub blend-grows : (u : ℤ) (alpha beta x r alpha′ beta′ x′ r′ : Value) → Within u alpha alpha′ → Within u beta beta′ → Within u x x′ → Within u r r′
-    → Included (BlendValues (Inside u alpha) (Inside u beta) (Inside u x) (Inside u r)) (BlendValues (Inside u alpha′) (Inside u beta′) (Inside u x′) (Inside u r′))
+      → Included (BlendValues (Inside u alpha) (Inside u beta) (Inside u x) (Inside u r)) (BlendValues (Inside u alpha′) (Inside u beta′) (Inside u x′) (Inside u r′))

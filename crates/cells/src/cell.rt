@@ -1,7 +1,8 @@
 // The types. They have a file of their own, since the definitions that the functions cite name them.
 ghost use Prim.Native.Nat.{_≤_};
-ghost use lib.IntN.{pos, negsuc};
+ghost use lib.IntN.{pos, negsuc, natAbs};
 ghost use lib.Signed.{_≤ℤ_};
+use rounding::numbers::Sums;
 
 // A cell as it lies in supplied memory: any two numbers may stand there.
 #[repr(C)]
@@ -52,9 +53,42 @@ pub struct Factors {
     pub beta: Cell,
 }
 
-// An unrounded sum: empty, or its least and its greatest value.
+// The places of a row that a sum runs over, from `from` to before `to`: at most 1,024 of them.
+#[derive(Clone, Copy)]
+pub struct Places {
+    pub from: usize,
+    pub to: usize,
+    ghost order: { from ≤ to },
+    ghost few: { to ≤ 1024 },
+}
+
+// The least and the greatest value of a sum of at most 1,024 products of two cells: at most 1,024 times 131,071 squared in
+// size, which is below 2^44.
+#[derive(Clone, Copy)]
+pub struct Totals {
+    pub least: i64,
+    pub greatest: i64,
+    ghost least_size: { natAbs least ≤ 17591917609984 },
+    ghost greatest_size: { natAbs greatest ≤ 17591917609984 },
+}
+
+// A sum of products, unrounded: empty as soon as an operand is.
+#[derive(Clone, Copy)]
+pub enum Total {
+    Empty,
+    Bounds(Totals),
+}
+
+// A sum that is ready to be divided and rounded: empty as soon as an operand is.
 #[derive(Clone, Copy)]
 pub enum Sum {
+    Empty,
+    Bounds(Sums),
+}
+
+// An unrounded value on its way to a total or a sum; how large it can be is said by the contracts of what makes it.
+#[derive(Clone, Copy)]
+pub(crate) enum Loose {
     Empty,
     Bounds(i64, i64),
 }

@@ -1,22 +1,13 @@
 // A sum divided by a cell: the least of the four quotients rounded down, the greatest up.
 ghost use mathlib.Core.Path.{_≡_};
 ghost use mathlib.Core.Bool.{false};
-ghost use Prim.Native.Nat.{ℕ, _≤_, _^_, _-_};
-ghost use Rattle.arithmetic.specs.Values.{Small, holds-zero, bounds, least-quotient, greatest-quotient};
+ghost use Rattle.arithmetic.specs.Values.{holds-zero, bounds, least-quotient, greatest-quotient};
 ghost use Rattle.rounding.specs.declared.direction.Direction.the-variants.{Down, Up};
 ghost use Rattle.rounding.specs.declared.fault.Bound.the-variants.{Lower, Upper};
 ghost use Rattle.rounding.specs.Outward.{fitted};
 ghost use Rattle.cells.specs.Cells.{cell-value, sum-value};
 ghost use Rattle.cells.specs.Faults.{kept};
 ghost use Rattle.cells.specs.Quotients.{zero-in, divided};
-use rounding::direction::Direction;
-use rounding::fault::Bound;
-use rounding::fault::RoundingFault;
-use rounding::numbers::Sums;
-use rounding::numbers::Unrounded;
-use rounding::rest::Rounding;
-use rounding::rest::dividing::fitting;
-use rounding::rest::guard::Upward;
 use crate::cell::Cell;
 use crate::cell::EMPTY;
 use crate::cell::Interval;
@@ -25,6 +16,13 @@ use crate::cell::Sum;
 use crate::four::divide;
 use crate::four::greatest_of;
 use crate::four::least_of;
+use rounding::direction::Direction;
+use rounding::fault::Bound;
+use rounding::fault::RoundingFault;
+use rounding::numbers::Sums;
+use rounding::rest::Rounding;
+use rounding::rest::dividing::fitting;
+use rounding::rest::guard::Upward;
 
 fn spans_zero(i: Interval) -> bool
     ensures { λ r. ⌜ r ≡ holds-zero (i .lower) (i .upper) ⌝ }
@@ -73,10 +71,9 @@ fn divide_out(rounding: &mut Rounding, sums: Sums, by: Interval) -> Result<Recor
 
 // A sum divided by a cell: empty for an empty one, and for a divisor that holds 0.
 pub fn quotient_cell(rounding: &mut Rounding, sum: Sum, by: Cell) -> Result<Record, RoundingFault>
-    requires { ⌜ Small (2 ^ 62 - 1) (sum-value sum) ⌝ }
     ensures { λ r. ⌜ r ≡ kept (divided (sum-value sum) (cell-value by)) ⌝ }
 {
-    let Sum::Bounds(low, high) = sum else {
+    let Sum::Bounds(sums) = sum else {
         return Ok(EMPTY);
     };
     let Cell::Bounds(divisor) = by else {
@@ -85,6 +82,5 @@ pub fn quotient_cell(rounding: &mut Rounding, sum: Sum, by: Cell) -> Result<Reco
     if spans_zero(divisor) {
         return Ok(EMPTY);
     }
-    let sums = Sums { least: Unrounded { value: low }, greatest: Unrounded { value: high } };
     divide_out(rounding, sums, divisor)
 }

@@ -23,7 +23,10 @@ pub impl From<AtRow> for CellFault as CellFaultFromRow {
     ghost converts = { λ a r. r ≡ record { row = a .row; rounding = a .fault } };
 
     fn from(a: AtRow) -> CellFault {
-        CellFault { row: a.row, rounding: a.fault }
+        CellFault {
+            row: a.row,
+            rounding: a.fault,
+        }
     }
 }
 

@@ -7,10 +7,11 @@ ghost use lib.IntN.{ℤ, natAbs, _*ℤ_};
 ghost use Rattle.arithmetic.specs.Four.{least, greatest, products};
 ghost use Rattle.arithmetic.specs.Values.{holds-zero};
 ghost use Rattle.cells.specs.Quotients.{quotients-in};
+use crate::cell::Interval;
+use crate::cell::Totals;
 use rounding::direction::Direction;
 use rounding::numbers::Divisor;
 use rounding::numbers::Sums;
-use crate::cell::Interval;
 
 fn times(x: i32, y: i32) -> i64
     ensures { λ r. ⌜ r ≡ x *ℤ y ⌝ }
@@ -19,13 +20,18 @@ fn times(x: i32, y: i32) -> i64
 }
 
 // The four products of the bounds of two cells.
-pub fn multiply(a: Interval, b: Interval) -> [i64; 4]
+pub(crate) fn multiply(a: Interval, b: Interval) -> [i64; 4]
     ensures { λ r. ⌜ r ≡ products (a .lower) (a .upper) (b .lower) (b .upper) ⌝ }
 {
-    [times(a.lower, b.lower), times(a.lower, b.upper), times(a.upper, b.lower), times(a.upper, b.upper)]
+    [
+        times(a.lower, b.lower),
+        times(a.lower, b.upper),
+        times(a.upper, b.lower),
+        times(a.upper, b.upper),
+    ]
 }
 
-// The product of a bound and a sum of at most 1,024 products.
+// The product of a bound and a sum of products.
 fn times_wide(x: i32, y: i64) -> i64
     requires bound { ⌜ natAbs x ≤ 131071 ⌝ }
     requires sum { ⌜ natAbs y ≤ 2 ^ 44 ⌝ }
@@ -34,22 +40,29 @@ fn times_wide(x: i32, y: i64) -> i64
     x as i64 * y
 }
 
-// The four products of the bounds of a cell and those of a sum of at most 1,024 products.
-pub(crate) fn multiply_sum(a: Interval, low: i64, high: i64) -> [i64; 4]
-    requires low { ⌜ natAbs low ≤ 2 ^ 44 ⌝ }
-    requires high { ⌜ natAbs high ≤ 2 ^ 44 ⌝ }
-    ensures { λ r. ⌜ r ≡ products (a .lower) (a .upper) low high ⌝ }
+// The four products of the bounds of a cell and those of a sum of products.
+pub(crate) fn multiply_total(a: Interval, total: Totals) -> [i64; 4]
+    ensures { λ r. ⌜ r ≡ products (a .lower) (a .upper) (total .least) (total .greatest) ⌝ }
 {
-    [times_wide(a.lower, low), times_wide(a.lower, high), times_wide(a.upper, low), times_wide(a.upper, high)]
+    [
+        times_wide(a.lower, total.least),
+        times_wide(a.lower, total.greatest),
+        times_wide(a.upper, total.least),
+        times_wide(a.upper, total.greatest),
+    ]
 }
 
 // The four quotients of the bounds of a sum by those of a cell that does not hold 0.
-pub fn divide(direction: Direction, sums: Sums, by: Interval) -> [i64; 4]
+pub(crate) fn divide(direction: Direction, sums: Sums, by: Interval) -> [i64; 4]
     requires { ⌜ holds-zero (by .lower) (by .upper) ≡ false ⌝ }
     ensures { λ r. ⌜ r ≡ quotients-in direction (sums .least .value) (sums .greatest .value) (by .lower) (by .upper) ⌝ }
 {
-    let lower = Divisor { value: by.lower as i64 };
-    let upper = Divisor { value: by.upper as i64 };
+    let lower = Divisor {
+        value: by.lower as i64,
+    };
+    let upper = Divisor {
+        value: by.upper as i64,
+    };
     [
         direction.quotient(sums.least, lower),
         direction.quotient(sums.least, upper),
@@ -58,13 +71,13 @@ pub fn divide(direction: Direction, sums: Sums, by: Interval) -> [i64; 4]
     ]
 }
 
-pub fn least_of(four: [i64; 4]) -> i64
+pub(crate) fn least_of(four: [i64; 4]) -> i64
     ensures { λ r. ⌜ r ≡ least four ⌝ }
 {
     four[0].min(four[1]).min(four[2].min(four[3]))
 }
 
-pub fn greatest_of(four: [i64; 4]) -> i64
+pub(crate) fn greatest_of(four: [i64; 4]) -> i64
     ensures { λ r. ⌜ r ≡ greatest four ⌝ }
 {
     four[0].max(four[1]).max(four[2].max(four[3]))

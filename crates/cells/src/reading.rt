@@ -5,22 +5,26 @@ ghost use lib.IntN.{pos};
 ghost use lib.Signed.{_≤ℤ_};
 ghost use Rattle.std.specs.Options.{Cases};
 ghost use Rattle.cells.specs.Cells.{cell-value, read-as, written, cell-at};
-use rounding::rest::dividing::LIMIT;
 use crate::cell::Cell;
 use crate::cell::EMPTY;
 use crate::cell::Interval;
+use crate::cell::Places;
 use crate::cell::Record;
 use crate::cell::Scale;
 use crate::cell::Terms;
+use rounding::rest::dividing::LIMIT;
 
 // What a record reads as: a record that breaks the rule of a cell reads as the empty one.
 pub fn read(record: Record) -> Cell
     ensures { λ c. ⌜ cell-value c ≡ read-as «record» ⌝ }
 {
-    if record.lower < -131_071 || record.upper > 131_071 || record.lower > record.upper {
+    if record.lower < -LIMIT || record.upper > LIMIT || record.lower > record.upper {
         return Cell::Empty;
     }
-    Cell::Bounds(Interval { lower: record.lower, upper: record.upper })
+    Cell::Bounds(Interval {
+        lower: record.lower,
+        upper: record.upper,
+    })
 }
 
 // The record that is written for a cell.
@@ -29,7 +33,10 @@ pub fn write(cell: Cell) -> Record
 {
     match cell {
         Cell::Empty => EMPTY,
-        Cell::Bounds(i) => Record { lower: i.lower, upper: i.upper },
+        Cell::Bounds(i) => Record {
+            lower: i.lower,
+            upper: i.upper,
+        },
     }
 }
 
@@ -37,7 +44,11 @@ pub fn write(cell: Cell) -> Record
 pub fn cell_at(run: &[Record], place: usize) -> Cell
     ensures { λ c. ⌜ cell-value c ≡ cell-at (now (run .entry)) place ⌝ }
 {
-    if place < run.len() { read(run[place]) } else { Cell::Empty }
+    if place < run.len() {
+        read(run[place])
+    } else {
+        Cell::Empty
+    }
 }
 
 impl Scale {
@@ -49,6 +60,18 @@ impl Scale {
             return None;
         }
         Some(Scale { steps })
+    }
+}
+
+impl Places {
+    // None where `from` is above `to`, or `to` above 1,024.
+    pub fn new(from: usize, to: usize) -> Option<Places>
+        ensures { λ r. ⌜ Cases r (from ≤ to → 1024 < to) (λ p. (from ≤ to) × (to ≤ 1024) × (p .from ≡ from) × (p .to ≡ to)) ⌝ }
+    {
+        if from > to || to > 1024 {
+            return None;
+        }
+        Some(Places { from, to })
     }
 }
 

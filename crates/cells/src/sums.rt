@@ -1,50 +1,54 @@
-// Unrounded sums: products of cells, their sums and differences, each empty as soon as an operand is.
+// Unrounded values: products of cells and their sums, each empty as soon as an operand is.
 // The sizes say why no word overflows: a product is at most 131,071 squared, 1,024 of them stay below 2^44, a cell times
 // that below 2^61, and a product times the scale below 2^51.
 ghost use mathlib.Core.Path.{_≡_};
-ghost use Prim.Native.Nat.{ℕ, _*_, _≤_, _^_};
+ghost use Prim.Native.Nat.{ℕ, _*_, _-_, _≤_, _^_};
 ghost use lib.IntN.{ℤ, pos, natAbs, _*ℤ_};
 ghost use lib.Signed.{_≤ℤ_, _<ℤ_};
 ghost use Rattle.arithmetic.specs.Values.{times, plus, opposite, rescaled, Small};
-ghost use Rattle.cells.specs.Cells.{cell-value, sum-value};
-use rounding::numbers::Divisor;
+ghost use Rattle.cells.specs.Cells.{cell-value, loose-value, total-value, sum-value};
 use crate::cell::Cell;
+use crate::cell::Loose;
 use crate::cell::Scale;
 use crate::cell::Sum;
+use crate::cell::Total;
+use crate::cell::Totals;
 use crate::four::greatest_of;
 use crate::four::least_of;
 use crate::four::multiply;
-use crate::four::multiply_sum;
+use crate::four::multiply_total;
+use rounding::numbers::Divisor;
+use rounding::numbers::Sums;
+use rounding::numbers::Unrounded;
 
 // From the least to the greatest of the four products of bounds.
-pub fn product(a: Cell, b: Cell) -> Sum
-    ensures is { λ r. ⌜ sum-value r ≡ times (cell-value a) (cell-value b) ⌝ }
-    ensures size { λ r. ⌜ Small 17179607041 (sum-value r) ⌝ }
+pub(crate) fn product(a: Cell, b: Cell) -> Loose
+    ensures is { λ r. ⌜ loose-value r ≡ times (cell-value a) (cell-value b) ⌝ }
+    ensures size { λ r. ⌜ Small 17179607041 (loose-value r) ⌝ }
 {
     let Cell::Bounds(x) = a else {
-        return Sum::Empty;
+        return Loose::Empty;
     };
     let Cell::Bounds(y) = b else {
-        return Sum::Empty;
+        return Loose::Empty;
     };
     let four = multiply(x, y);
-    Sum::Bounds(least_of(four), greatest_of(four))
+    Loose::Bounds(least_of(four), greatest_of(four))
 }
 
-// A cell times a sum of at most 1,024 products.
-pub fn product_sum(a: Cell, sum: Sum) -> Sum
-    requires { ⌜ Small (2 ^ 44) (sum-value sum) ⌝ }
-    ensures is { λ r. ⌜ sum-value r ≡ times (cell-value a) (sum-value sum) ⌝ }
-    ensures size { λ r. ⌜ Small (131071 * 2 ^ 44) (sum-value r) ⌝ }
+// A cell times a sum of products.
+pub(crate) fn total_product(a: Cell, total: Total) -> Loose
+    ensures is { λ r. ⌜ loose-value r ≡ times (cell-value a) (total-value total) ⌝ }
+    ensures size { λ r. ⌜ Small (131071 * 2 ^ 44) (loose-value r) ⌝ }
 {
     let Cell::Bounds(x) = a else {
-        return Sum::Empty;
+        return Loose::Empty;
     };
-    let Sum::Bounds(low, high) = sum else {
-        return Sum::Empty;
+    let Total::Bounds(y) = total else {
+        return Loose::Empty;
     };
-    let four = multiply_sum(x, low, high);
-    Sum::Bounds(least_of(four), greatest_of(four))
+    let four = multiply_total(x, y);
+    Loose::Bounds(least_of(four), greatest_of(four))
 }
 
 // The square of the number of steps.
@@ -77,52 +81,93 @@ impl Scale {
     pub fn squared(self) -> Divisor
         ensures { λ r. ⌜ r .value ≡ self .steps *ℤ self .steps ⌝ }
     {
-        Divisor { value: square(self) }
+        Divisor {
+            value: square(self),
+        }
     }
 }
 
-impl Sum {
-    // A single cell as a sum.
-    pub fn of(cell: Cell) -> Sum
-        ensures is { λ r. ⌜ sum-value r ≡ cell-value cell ⌝ }
-        ensures size { λ r. ⌜ Small 131071 (sum-value r) ⌝ }
+impl Loose {
+    // A single cell.
+    pub(crate) fn of(cell: Cell) -> Loose
+        ensures is { λ r. ⌜ loose-value r ≡ cell-value cell ⌝ }
+        ensures size { λ r. ⌜ Small 131071 (loose-value r) ⌝ }
     {
         match cell {
-            Cell::Empty => Sum::Empty,
-            Cell::Bounds(i) => Sum::Bounds(i.lower as i64, i.upper as i64),
+            Cell::Empty => Loose::Empty,
+            Cell::Bounds(i) => Loose::Bounds(i.lower as i64, i.upper as i64),
+        }
+    }
+
+    // A sum of products, to be added to.
+    pub(crate) fn of_total(total: Total) -> Loose
+        ensures is { λ r. ⌜ loose-value r ≡ total-value total ⌝ }
+        ensures size { λ r. ⌜ Small (2 ^ 44) (loose-value r) ⌝ }
+    {
+        match total {
+            Total::Empty => Loose::Empty,
+            Total::Bounds(t) => Loose::Bounds(t.least, t.greatest),
         }
     }
 
     // A product at a scale that is finer by the number of steps.
-    pub fn scaled(self, scale: Scale) -> Sum
-        requires { ⌜ Small 17179607041 (sum-value self) ⌝ }
-        ensures is { λ r. ⌜ sum-value r ≡ rescaled (scale .steps) (sum-value self) ⌝ }
-        ensures size { λ r. ⌜ Small (2 ^ 51) (sum-value r) ⌝ }
+    pub(crate) fn scaled(self, scale: Scale) -> Loose
+        requires { ⌜ Small 17179607041 (loose-value self) ⌝ }
+        ensures is { λ r. ⌜ loose-value r ≡ rescaled (scale .steps) (loose-value self) ⌝ }
+        ensures size { λ r. ⌜ Small (2 ^ 51) (loose-value r) ⌝ }
     {
         match self {
-            Sum::Bounds(a, b) => Sum::Bounds(finer(a, scale), finer(b, scale)),
-            Sum::Empty => Sum::Empty,
+            Loose::Bounds(a, b) => Loose::Bounds(finer(a, scale), finer(b, scale)),
+            Loose::Empty => Loose::Empty,
         }
     }
 
-    pub fn add(self, other: Sum) -> Sum
-        requires left { ⌜ Small (2 ^ 61) (sum-value self) ⌝ }
-        requires right { ⌜ Small (2 ^ 61) (sum-value other) ⌝ }
-        ensures { λ r. ⌜ sum-value r ≡ plus (sum-value self) (sum-value other) ⌝ }
+    pub(crate) fn add(self, other: Loose) -> Loose
+        requires left { ⌜ Small (2 ^ 61) (loose-value self) ⌝ }
+        requires right { ⌜ Small (2 ^ 61) (loose-value other) ⌝ }
+        ensures { λ r. ⌜ loose-value r ≡ plus (loose-value self) (loose-value other) ⌝ }
     {
         match (self, other) {
-            (Sum::Bounds(a, b), Sum::Bounds(c, d)) => Sum::Bounds(a + c, b + d),
-            _ => Sum::Empty,
+            (Loose::Bounds(a, b), Loose::Bounds(c, d)) => Loose::Bounds(a + c, b + d),
+            _ => Loose::Empty,
         }
     }
 
-    pub fn negated(self) -> Sum
-        requires { ⌜ Small (2 ^ 61) (sum-value self) ⌝ }
-        ensures { λ r. ⌜ sum-value r ≡ opposite (sum-value self) ⌝ }
+    pub(crate) fn negated(self) -> Loose
+        requires { ⌜ Small (2 ^ 44) (loose-value self) ⌝ }
+        ensures is { λ r. ⌜ loose-value r ≡ opposite (loose-value self) ⌝ }
+        ensures size { λ r. ⌜ Small (2 ^ 44) (loose-value r) ⌝ }
     {
         match self {
-            Sum::Bounds(a, b) => Sum::Bounds(-b, -a),
-            Sum::Empty => Sum::Empty,
+            Loose::Bounds(a, b) => Loose::Bounds(-b, -a),
+            Loose::Empty => Loose::Empty,
+        }
+    }
+
+    // A value that is no larger than 1,024 products.
+    pub(crate) fn total(self) -> Total
+        requires { ⌜ Small 17591917609984 (loose-value self) ⌝ }
+        ensures { λ r. ⌜ total-value r ≡ loose-value self ⌝ }
+    {
+        match self {
+            Loose::Bounds(least, greatest) => Total::Bounds(Totals { least, greatest }),
+            Loose::Empty => Total::Empty,
+        }
+    }
+
+    // A value that can be divided.
+    pub(crate) fn sum(self) -> Sum
+        requires { ⌜ Small (2 ^ 62 - 1) (loose-value self) ⌝ }
+        ensures { λ r. ⌜ sum-value r ≡ loose-value self ⌝ }
+    {
+        match self {
+            Loose::Bounds(least, greatest) => {
+                Sum::Bounds(Sums {
+                    least: Unrounded { value: least },
+                    greatest: Unrounded { value: greatest },
+                })
+            }
+            Loose::Empty => Sum::Empty,
         }
     }
 }

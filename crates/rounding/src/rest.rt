@@ -16,6 +16,8 @@ impl Rounding {
     pub fn new() -> Rounding
         ensures { λ r. ⌜ r .direction ≡ Down ⌝ }
     {
-        Rounding { direction: Direction::Down }
+        Rounding {
+            direction: Direction::Down,
+        }
     }
 }

@@ -16,7 +16,7 @@ use crate::rest::Rounding;
 use crate::rest::guard::Upward;
 
 // The limit M: no bound of a cell is beyond it in size.
-pub const LIMIT: i64 = 131_071;
+pub const LIMIT: i32 = 131_071;
 
 // The greatest whole number that is at most the quotient. `div_euclid` rounds down by a positive divisor.
 fn floor_of(value: i64, divisor: i64) -> i64
@@ -25,7 +25,11 @@ fn floor_of(value: i64, divisor: i64) -> i64
     requires divisor { ⌜ natAbs divisor < 2 ^ 62 ⌝ }
     ensures { λ r. ⌜ r ≡ floor value divisor ⌝ }
 {
-    if divisor < 0 { (-value).div_euclid(-divisor) } else { value.div_euclid(divisor) }
+    if divisor < 0 {
+        (-value).div_euclid(-divisor)
+    } else {
+        value.div_euclid(divisor)
+    }
 }
 
 // The least whole number that is at least the quotient: the floor of the opposite, turned round.
@@ -63,7 +67,7 @@ impl<'a> Upward<'a> {
 pub fn fitting(value: i64, bound: Bound) -> Result<i32, RoundingFault>
     ensures { λ r. ⌜ r ≡ fitted bound value ⌝ }
 {
-    if value < -LIMIT || value > LIMIT {
+    if value < -(LIMIT as i64) || value > LIMIT as i64 {
         return Err(RoundingFault { bound });
     }
     Ok(value as i32)
@@ -73,14 +77,22 @@ pub fn fitting(value: i64, bound: Bound) -> Result<i32, RoundingFault>
 fn lesser_by(by: Divisor, sums: Sums) -> Unrounded
     ensures { λ r. ⌜ r .value ≡ lesser (by .value) (sums .least .value) (sums .greatest .value) ⌝ }
 {
-    if by.value < 0 { sums.greatest } else { sums.least }
+    if by.value < 0 {
+        sums.greatest
+    } else {
+        sums.least
+    }
 }
 
 // Of two sums the one with the greater quotient.
 fn greater_by(by: Divisor, sums: Sums) -> Unrounded
     ensures { λ r. ⌜ r .value ≡ greater (by .value) (sums .least .value) (sums .greatest .value) ⌝ }
 {
-    if by.value < 0 { sums.least } else { sums.greatest }
+    if by.value < 0 {
+        sums.least
+    } else {
+        sums.greatest
+    }
 }
 
 impl Rounding {
@@ -90,7 +102,10 @@ impl Rounding {
         ensures answer { λ r. ⌜ r ≡ rounded-out (by .value) (sums .least .value) (sums .greatest .value) ⌝ }
         ensures rests { λ _. ⌜ now (self .exit) .direction ≡ Down ⌝ }
     {
-        let lower = fitting(self.direction.quotient(lesser_by(by, sums), by), Bound::Lower)?;
+        let lower = fitting(
+            self.direction.quotient(lesser_by(by, sums), by),
+            Bound::Lower,
+        )?;
         let up = Upward::new(&mut self.direction);
         let upper = fitting(up.quotient(greater_by(by, sums), by), Bound::Upper)?;
         Ok((lower, upper))

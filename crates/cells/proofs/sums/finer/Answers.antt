@@ -10,20 +10,20 @@ use Rattle.cells.proofs.sums.finer.Needs as need
 
 pub mul-result : need.mul-result
 mul-result c =
-  let a = c .fits .a in
-  let b : SFits w64 (c .args .scale .steps) = search needs in
-  let l = c .args .scale .least in
-  let m = c .args .scale .most in
-  let few : natAbs (c .args .scale .steps) ≤ 100000 = omega (arith, ints) in
-  simp toZ-ofZ (size-fits (c .args .a *ℤ c .args .scale .steps) (omega (arith, size-mul (c .args .a) (c .args .scale .steps) 17179607041 100000 (c .pre) few)))
+    let a = c .fits .a in
+    let b : SFits w64 (c .args .scale .steps) = search needs in
+    let l = c .args .scale .least in
+    let m = c .args .scale .most in
+    let few : natAbs (c .args .scale .steps) ≤ 100000 = omega (arith, ints) in
+    simp toZ-ofZ (size-fits (c .args .a *ℤ c .args .scale .steps) (omega (arith, size-mul (c .args .a) (c .args .scale .steps) 17179607041 100000 (c .pre) few)))
 
 pub returns : need.returns
 returns c =
-  let a = c .fits .a in
-  let b : SFits w64 (c .args .scale .steps) = search needs in
-  let l = c .args .scale .least in
-  let m = c .args .scale .most in
-  let few : natAbs (c .args .scale .steps) ≤ 100000 = omega (arith, ints) in
-  let size = size-mul (c .args .a) (c .args .scale .steps) 17179607041 100000 (c .pre) few in
-  let e : SFits w64 (c .args .a *ℤ c .args .scale .steps) = size-fits (c .args .a *ℤ c .args .scale .steps) (omega arith) in
-  record { is = simp toZ-ofZ; size = simp toZ-ofZ (omega arith) }
+    let a = c .fits .a in
+    let b : SFits w64 (c .args .scale .steps) = search needs in
+    let l = c .args .scale .least in
+    let m = c .args .scale .most in
+    let few : natAbs (c .args .scale .steps) ≤ 100000 = omega (arith, ints) in
+    let size = size-mul (c .args .a) (c .args .scale .steps) 17179607041 100000 (c .pre) few in
+    let e : SFits w64 (c .args .a *ℤ c .args .scale .steps) = size-fits (c .args .a *ℤ c .args .scale .steps) (omega arith) in
+    record { is = simp toZ-ofZ; size = simp toZ-ofZ (omega arith) }
