@@ -1,2 +1,4 @@
+pub mod JoinTight
+mod Joined
 pub mod Lawful
 pub mod Sizing

@@ -2,7 +2,12 @@ pub mod Cases
 pub mod Cells
 pub mod Faults
 pub mod Formulas
+pub mod Held
+pub mod Holding
+pub mod JoinLaws
+pub mod Joins
 pub mod Laws
 pub mod Questions
 pub mod Quotients
+pub mod Rules
 pub mod Worked

@@ -8,6 +8,6 @@ pub mod laws;
 pub mod questions;
 pub mod reading;
 pub mod rounding_out;
-// pub mod rules;
+pub mod rules;
 mod sums;
 pub mod totals;
