@@ -25,6 +25,7 @@ use Rattle.cells.specs.Faults.{kept, paired}
 use Rattle.cells.specs.Formulas.{dot-cell, DotValues, sum-cell, SumValues, blend-cell, BlendValues}
 use Rattle.cells.specs.Questions.{nested}
 use Rattle.cells.specs.Laws.{Laws}
+use Rattle.cells.proofs.JoinTight.{join-tight}
 
 positive-nonzero : (t : ℤ) → pos 0 <ℤ t → t ≡ pos 0 → ⊥
 positive-nonzero t h e = omega (arith, ints)
@@ -147,4 +148,5 @@ laws = record {
   sum-grows = sum-grows;
   blend-tight = blend-tight;
   blend-grows = blend-grows;
+  join-tight = join-tight;
 }

@@ -6,12 +6,12 @@ use native.Mathlib.Omega.{arith}
 use lib.IntN.{ℤ, pos, _*ℤ_}
 use lib.Signed.{_≤ℤ_, _<ℤ_, leZ}
 use borrow.Author.Differences.{ints}
-use Rattle.std.proofs.shelf.Tests.{and-parts}
+use Rattle.std.proofs.shelf.Tests.{and-parts, and-from, false≢true}
 use Rattle.arithmetic.specs.Fractions.{Fraction, Same, Between, ratio}
 use Rattle.arithmetic.specs.Values.{Value, empty, bounds, Ordered, Inside, Within, Nested}
 use Rattle.arithmetic.proofs.Integers.{*ℤ-mono}
 use Rattle.arithmetic.proofs.Fractions.{weak, same-refl, same-sym, same-trans, at-ratio}
-use Rattle.arithmetic.proofs.Tests.{never-true, leZ-true, true-leZ, both-true}
+use Rattle.arithmetic.proofs.Tests.{leZ-true, true-leZ}
 use Rattle.arithmetic.proofs.Values.{within-nested, inside-same}
 use Rattle.cells.specs.Cells.{IsCell}
 use Rattle.cells.specs.Held.{Held, nothing, held, Holds, Chosen, Alike}
@@ -31,7 +31,7 @@ same-yes v w e =
 yes-same : (v w : Fraction) → Same v w → same-fraction v w ≡ true
 yes-same v w h =
     let x = v .num *ℤ w .den in let y = w .num *ℤ v .den in
-    both-true (true-leZ x y (under x y (h .cross))) (true-leZ y x (under y x (sym (h .cross))))
+    and-from (leZ x y) (leZ y x) (true-leZ x y (under x y (h .cross))) (true-leZ y x (under y x (sym (h .cross))))
   where
     under : (x y : ℤ) → x ≡ y → x ≤ℤ y
     under x y e = omega (arith, ints)
@@ -46,7 +46,7 @@ has-alike (held w) nothing v v′ a e h = absurd a
 has-alike (held w) (held w′) v v′ a e h = yes-same w′ v′ (same-trans w′ v v′ (same-trans w′ w v (same-sym w w′ a) (same-yes w v h)) e)
 
 pub has-inside : (u : ℤ) (c : Value) (p : Held) (v : Fraction) → Holds u c p → has p v ≡ true → Inside u c v
-has-inside u c nothing v h e = never-true e
+has-inside u c nothing v h e = absurd (false≢true e)
 has-inside u c (held w) v h e = inside-same u c w v (same-yes w v e) h
 
 -- ---- what lies inside a cell

@@ -8,12 +8,11 @@ use lib.Signed.{_≤ℤ_, ltZ}
 use borrow.Author.Differences.{ints}
 use Rattle.std.specs.Numbers.{minZ, maxZ}
 use Rattle.std.proofs.shelf.Signed.{clamps, by-ltZ}
-use Rattle.std.proofs.shelf.Tests.{and-parts}
+use Rattle.std.proofs.shelf.Tests.{and-parts, and-from, or-cases, or-left, or-right}
 use Rattle.arithmetic.specs.Fractions.{Fraction, Same, Between, ratio}
 use Rattle.arithmetic.specs.Values.{Value, empty, bounds, Inside, Within, Nested}
 use Rattle.arithmetic.proofs.Integers.{*ℤ-cancel, ≤ℤ-trans}
 use Rattle.arithmetic.proofs.Fractions.{between-weaken}
-use Rattle.arithmetic.proofs.Tests.{both-true, or-cases, or-left, or-right}
 use Rattle.arithmetic.proofs.Values.{nested-within, within-nested}
 use Rattle.cells.specs.Cells.{IsCell}
 use Rattle.cells.specs.Held.{Held, held, Holds, Alike}
@@ -57,7 +56,7 @@ met-out u (bounds a b) (bounds c d) v h =
     (between-weaken u l m a b v k (omega (arith, ints, clamps)) (omega (arith, ints, clamps)), between-weaken u l m c d v k (omega (arith, ints, clamps)) (omega (arith, ints, clamps)))
 
 pub meet-alike : (p q p′ q′ : Held) (v v′ : Fraction) → Alike p p′ → Alike q q′ → Same v v′ → meet-admits p q v ≡ true → meet-admits p′ q′ v′ ≡ true
-meet-alike p q p′ q′ v v′ a b e h = let k = and-parts (has p v) (has q v) h in both-true (has-alike p p′ v v′ a e (k .0)) (has-alike q q′ v v′ b e (k .1))
+meet-alike p q p′ q′ v v′ a b e h = let k = and-parts (has p v) (has q v) h in and-from (has p′ v′) (has q′ v′) (has-alike p p′ v v′ a e (k .0)) (has-alike q q′ v v′ b e (k .1))
 
 pub meet-keeps : (x y : Value) → IsCell x → IsCell y → IsCell (met x y)
 meet-keeps empty y g h = tt
@@ -75,7 +74,7 @@ meet-contains u x y p q v h k e = let t = and-parts (has p v) (has q v) e in met
 pub meet-attained : (u : ℤ) (x y : Value) (e : ℤ) → IsScale u → IsCell x → IsCell y → End e (met x y) → ReachedAt meet-admits u x y e
 meet-attained u x y e s g h i =
     let z = scale-positive u s in let v = ratio e u z in let k = met-out u x y v (end-inside u (met x y) e z (meet-keeps x y g h) i) in
-    reached-at meet-admits u x y e z (held v) (held v) (k .0) (k .1) (both-true (has-self v) (has-self v))
+    reached-at meet-admits u x y e z (held v) (held v) (k .0) (k .1) (and-from (has (held v) v) (has (held v) v) (has-self v) (has-self v))
 
 pub meet-isotone : (u : ℤ) (a b c d : Value) → Within u a c → Within u b d → Within u (met a b) (met c d)
 meet-isotone u a b c d i j v h = let k = met-out u a b v h in met-in u c d v (i v (k .0)) (j v (k .1))
@@ -127,7 +126,7 @@ hull-end (bounds a b) (bounds c d) e (inr i) = by-ltZ b d (λ l. inr (inr (omega
 
 pub hull-alike : (p q p′ q′ : Held) (v v′ : Fraction) → Alike p p′ → Alike q q′ → Same v v′ → hull-admits p q v ≡ true → hull-admits p′ q′ v′ ≡ true
 hull-alike p q p′ q′ v v′ a b e h =
-    ⊎-elim (λ i. or-left (has q′ v′) (has-alike p p′ v v′ a e i)) (λ i. or-right (has p′ v′) (has-alike q q′ v v′ b e i)) (or-cases (has p v) (has q v) h)
+    ⊎-elim (λ i. or-left (has p′ v′) (has q′ v′) (has-alike p p′ v v′ a e i)) (λ i. or-right (has p′ v′) (has q′ v′) (has-alike q q′ v v′ b e i)) (or-cases (has p v) (has q v) h)
 
 pub hull-keeps : (x y : Value) → IsCell x → IsCell y → IsCell (hulled x y)
 hull-keeps empty y g h = h
@@ -145,8 +144,8 @@ pub hull-attained : (u : ℤ) (x y : Value) (e : ℤ) → IsScale u → IsCell x
 hull-attained u x y e s g h i =
     let z = scale-positive u s in let v = ratio e u z in let p = choice u x z g in let q = choice u y z h in
     ⊎-elim
-    (λ k. reached-at hull-admits u x y e z (held v) (q .0) (end-inside u x e z g k) (q .1) (or-left (has (q .0) v) (has-self v)))
-    (λ k. reached-at hull-admits u x y e z (p .0) (held v) (p .1) (end-inside u y e z h k) (or-right (has (p .0) v) (has-self v)))
+    (λ k. reached-at hull-admits u x y e z (held v) (q .0) (end-inside u x e z g k) (q .1) (or-left (has (held v) v) (has (q .0) v) (has-self v)))
+    (λ k. reached-at hull-admits u x y e z (p .0) (held v) (p .1) (end-inside u y e z h k) (or-right (has (p .0) v) (has (held v) v) (has-self v)))
     (hull-end x y e i)
 
 pub hull-isotone : (u : ℤ) (a b c d : Value) → IsScale u → IsCell a → IsCell b → Within u a c → Within u b d → Within u (hulled a b) (hulled c d)

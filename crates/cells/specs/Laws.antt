@@ -12,7 +12,9 @@ use Rattle.cells.specs.declared.cell.Record.{Record}
 use Rattle.cells.specs.Cells.{IsCell, read-as, written}
 use Rattle.cells.specs.Faults.{kept}
 use Rattle.cells.specs.Formulas.{dot-cell, DotValues, sum-cell, SumValues, blend-cell, BlendValues}
+use Rattle.cells.specs.Held.{Chosen}
 use Rattle.cells.specs.Questions.{nested}
+use Rattle.cells.specs.Rules.{IsScale, Admitted, Rule}
 
 pub record Laws : Type 0 where
   -- every record reads as a cell, and a cell that was written reads as itself
@@ -42,3 +44,5 @@ pub record Laws : Type 0 where
       → Tightly u (BlendValues (Inside u alpha) (Inside u beta) (Inside u x) (Inside u r)) (blend-cell u alpha beta x r)
   pub blend-grows : (u : ℤ) (alpha beta x r alpha′ beta′ x′ r′ : Value) → Within u alpha alpha′ → Within u beta beta′ → Within u x x′ → Within u r r′
       → Included (BlendValues (Inside u alpha) (Inside u beta) (Inside u x) (Inside u r)) (BlendValues (Inside u alpha′) (Inside u beta′) (Inside u x′) (Inside u r′))
+  -- a join, for every rule: the values that it admits from what can be chosen out of the operands. How they grow is the rule's own law
+  pub join-tight : (rule : Rule) (u : ℤ) (a b : Value) → IsScale u → IsCell a → IsCell b → Tightly u (Admitted (rule .admits) (Chosen u a) (Chosen u b)) (rule .joined a b)

@@ -8,7 +8,6 @@ ghost use Rattle.cells.specs.Cells.{cell-value, read-as, written, cell-at};
 use crate::cell::Cell;
 use crate::cell::EMPTY;
 use crate::cell::Interval;
-use crate::cell::Places;
 use crate::cell::Record;
 use crate::cell::Scale;
 use crate::cell::Terms;
@@ -60,18 +59,6 @@ impl Scale {
             return None;
         }
         Some(Scale { steps })
-    }
-}
-
-impl Places {
-    // None where `from` is above `to`, or `to` above 1,024.
-    pub fn new(from: usize, to: usize) -> Option<Places>
-        ensures { λ r. ⌜ Cases r (from ≤ to → 1024 < to) (λ p. (from ≤ to) × (to ≤ 1024) × (p .from ≡ from) × (p .to ≡ to)) ⌝ }
-    {
-        if from > to || to > 1024 {
-            return None;
-        }
-        Some(Places { from, to })
     }
 }
 

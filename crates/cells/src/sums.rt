@@ -71,7 +71,7 @@ fn finer(a: i64, scale: Scale) -> i64
 
 impl Scale {
     // The divisor that brings a product of two cells back to steps.
-    pub fn once(self) -> Divisor
+    pub(crate) fn once(self) -> Divisor
         ensures { λ r. ⌜ r .value ≡ self .steps ⌝ }
     {
         Divisor { value: self.steps }

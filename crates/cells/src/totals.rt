@@ -48,7 +48,7 @@ pub fn weighted(scale: Scale, factors: Factors, old: Cell, total: Total) -> Sum
 }
 
 // alpha·x + beta·r, at the scale of a product of two cells.
-pub fn blended(factors: Factors, x: Cell, old: Cell) -> Sum
+pub(crate) fn blended(factors: Factors, x: Cell, old: Cell) -> Sum
     ensures { λ r. ⌜ sum-value r ≡ plus (times (cell-value (factors .alpha)) (cell-value x)) (times (cell-value (factors .beta)) (cell-value old)) ⌝ }
 {
     let worked = product(factors.alpha, x);
