@@ -28,7 +28,7 @@ impl Drop for Upward<'_> {
     fn drop(self)
         ensures { λ _. ⌜ now (self .exit .0) ≡ Down ⌝ }
     {
-        *self.0 = Direction::Down;
-        let Upward(_) = self;
+        let Upward(direction) = self;
+        *direction = Direction::Down;
     }
 }
