@@ -8,7 +8,7 @@ use lib.Signed.{_≤ℤ_, _<ℤ_, clashℤ, shrZ}
 use borrow.Author.Differences.{ints}
 use Rattle.std.proofs.shelf.Signed.{by-ltZ}
 use Rattle.arithmetic.specs.Fractions.{sign, size-positive}
-use Rattle.arithmetic.specs.Rounding.{floor, ceiling, IsFloor, IsCeiling, Laws}
+use Rattle.arithmetic.specs.Rounding.{floor, ceiling, IsFloor, IsCeiling}
 use Rattle.arithmetic.proofs.Integers.{ring, *ℤ-mono, *-one, +ℤ-*ℤ, one-*, neg-*ℤ, ≤ℤ-trans}
 
 -- ---- the two sides of the floor, at a positive divisor
@@ -73,7 +73,7 @@ less q n s e h = simp ring h
 more : (q n s e : ℤ) → (q *ℤ e) <ℤ (n *ℤ s) → (q *ℤ (pos 1 *ℤ e)) <ℤ ((n *ℤ (s *ℤ pos 1)) *ℤ pos 1)
 more q n s e h = simp ring h
 
-floor-law : (n d : ℤ) (nonzero : d ≡ pos 0 → ⊥) → IsFloor n d (floor n d) nonzero
+pub floor-law : (n d : ℤ) (nonzero : d ≡ pos 0 → ⊥) → IsFloor n d (floor n d) nonzero
 floor-law n d nonzero =
     let s = sign d in let e = pos (natAbs d) in let pe = size-positive d nonzero in
     record {
@@ -83,7 +83,7 @@ floor-law n d nonzero =
     }
 
 -- the floor of the opposite, turned round
-ceiling-law : (n d : ℤ) (nonzero : d ≡ pos 0 → ⊥) → IsCeiling n d (ceiling n d) nonzero
+pub ceiling-law : (n d : ℤ) (nonzero : d ≡ pos 0 → ⊥) → IsCeiling n d (ceiling n d) nonzero
 ceiling-law n d nonzero =
     let s = sign d in let e = pos (natAbs d) in let pe = size-positive d nonzero in
     let f = floor (negℤ n) d in
@@ -103,6 +103,3 @@ ceiling-law n d nonzero =
 
     flip : (m n s e : ℤ) → (n *ℤ s) ≤ℤ (m *ℤ e) → (negℤ m *ℤ e) ≤ℤ (negℤ n *ℤ s)
     flip m n s e h = simp neg-*ℤ (omega (arith, ints))
-
-pub laws : Laws
-laws = record { floor-law = floor-law; ceiling-law = ceiling-law }

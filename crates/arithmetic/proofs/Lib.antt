@@ -5,4 +5,5 @@ pub mod Sets
 pub mod Tight
 pub mod Values
 pub mod Tests
+mod Lawful
 pub mod Sizes

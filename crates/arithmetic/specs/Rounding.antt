@@ -24,8 +24,3 @@ pub record IsCeiling (n d q : ℤ) (nonzero : d ≡ pos 0 → ⊥) : Type 0 wher
   pub over : AtMost (quotient (whole n) (whole d) nonzero) (whole q)
   pub before : Less (whole (q -ℤ pos 1)) (quotient (whole n) (whole d) nonzero)
   pub least : (m : ℤ) → AtMost (quotient (whole n) (whole d) nonzero) (whole m) → q ≤ℤ m
-
--- what the two definitions above are, in fractions
-pub record Laws : Type 0 where
-  pub floor-law : (n d : ℤ) (nonzero : d ≡ pos 0 → ⊥) → IsFloor n d (floor n d) nonzero
-  pub ceiling-law : (n d : ℤ) (nonzero : d ≡ pos 0 → ⊥) → IsCeiling n d (ceiling n d) nonzero

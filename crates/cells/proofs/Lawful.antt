@@ -1,6 +1,7 @@
 -- The laws of cells, each from the combinators of exact and tight values. Assumes nothing.
 use mathlib.Core.Path.{_≡_, refl, sym, ap, _∙_, subst}
 use mathlib.Core.Bool.{Bool, true, false, cond, _&&_, _||_}
+use mathlib.Core.Logic.{inl, inr, ⊎-elim}
 use Prim.Native.Nat.{ℕ, _+_, _≤_, _<_}
 use native.Mathlib.Omega.{arith}
 use lib.IntN.{ℤ, pos, negsuc, _*ℤ_}
@@ -8,14 +9,15 @@ use lib.Signed.{_≤ℤ_, _<ℤ_, leZ, ltZ}
 use borrow.Author.Differences.{ints}
 use Rattle.std.specs.declared.result.Result.{Result}
 use Rattle.std.specs.declared.result.Result.the-variants.{Ok, Err}
-use Rattle.std.proofs.shelf.Tests.{and-parts, and-from, or-parts, or-from, false≢true}
-use Rattle.arithmetic.specs.Sets.{Set, TotalSet, ProductSet, SumSet, Included}
-use Rattle.arithmetic.specs.Values.{Value, empty, bounds, Ordered, Inside, Within, Nested, Exactly, Tightly, times, total}
+use Rattle.std.proofs.shelf.Signed.{by-ltZ}
+use Rattle.std.proofs.shelf.Tests.{and-parts, and-from, and-cases, or-parts, or-from, false≢true}
+use Rattle.arithmetic.specs.Sets.{Set, TotalSet, ProductSet, SumSet, QuotientSet, Included}
+use Rattle.arithmetic.specs.Values.{Value, empty, bounds, Ordered, Inside, Within, Nested, Exactly, Tightly, Apart, times, total, quotients}
 use Rattle.arithmetic.proofs.Integers.{*ℤ-assoc, *ℤ-pos}
 use Rattle.arithmetic.proofs.Fractions.{weak}
 use Rattle.arithmetic.proofs.Sets.{products-grow, sums-grow, totals-grow}
 use Rattle.arithmetic.proofs.Tests.{leZ-true, true-leZ}
-use Rattle.arithmetic.proofs.Values.{exactly-inside, exactly-times, exactly-plus, exactly-rescaled, exactly-total, exactly-tightly, rounded-tightly, nested-within, within-nested}
+use Rattle.arithmetic.proofs.Values.{exactly-inside, exactly-times, exactly-plus, exactly-rescaled, exactly-total, exactly-tightly, rounded-tightly, quotients-tightly, nested-within, within-nested}
 use Rattle.rounding.specs.declared.fault.Bound.the-variants.{Lower, Upper}
 use Rattle.rounding.specs.declared.fault.RoundingFault.{RoundingFault}
 use Rattle.rounding.specs.Outward.{beyond, both}
@@ -24,6 +26,7 @@ use Rattle.cells.specs.Cells.{IsCell, broken, read-as, written}
 use Rattle.cells.specs.Faults.{kept, paired}
 use Rattle.cells.specs.Formulas.{dot-cell, DotValues, sum-cell, SumValues, blend-cell, BlendValues}
 use Rattle.cells.specs.Questions.{nested}
+use Rattle.cells.specs.Quotients.{zero-in, divided}
 use Rattle.cells.specs.Laws.{Laws}
 use Rattle.cells.proofs.JoinTight.{join-tight}
 
@@ -68,6 +71,26 @@ blend-tight u alpha beta x r z oa ob ox or =
 blend-grows : (u : ℤ) (alpha beta x r alpha′ beta′ x′ r′ : Value) → Within u alpha alpha′ → Within u beta beta′ → Within u x x′ → Within u r r′
     → Included (BlendValues (Inside u alpha) (Inside u beta) (Inside u x) (Inside u r)) (BlendValues (Inside u alpha′) (Inside u beta′) (Inside u x′) (Inside u r′))
 blend-grows u alpha beta x r alpha′ beta′ x′ r′ ia ib ix ir = sums-grow (products-grow ia ix) (products-grow ib ir)
+
+-- ---- quotients
+divided-apart : (v d : Value) → zero-in d ≡ false → divided v d ≡ quotients v d
+divided-apart empty d e = refl
+divided-apart (bounds a b) empty e = refl
+divided-apart (bounds a b) (bounds c d) e = ap (λ (t : Bool). cond t empty (quotients (bounds a b) (bounds c d))) e
+
+not-zero-apart : (d : Value) → Ordered d → zero-in d ≡ false → Apart d
+not-zero-apart empty o e = tt
+not-zero-apart (bounds c d) o e = ⊎-elim (λ l. inl (not-le c (pos 0) l)) (λ h. inr (not-le (pos 0) d h)) (and-cases (leZ c (pos 0)) (leZ (pos 0) d) e)
+  where
+    not-le : (a b : ℤ) → leZ a b ≡ false → b <ℤ a
+    not-le a b e = by-ltZ b a (λ l. l) (λ l. absurd (false≢true (sym e ∙ true-leZ a b l)))
+
+quotient-tight : (u : ℤ) (alpha x d : Value) → pos 0 <ℤ u → Ordered alpha → Ordered x → Ordered d → zero-in d ≡ false
+    → Tightly u (QuotientSet (ProductSet (Inside u alpha) (Inside u x)) (Inside u d)) (divided (times alpha x) d)
+quotient-tight u alpha x d z oa ox od e =
+    let P : Value → Type 0 = Tightly u (QuotientSet (ProductSet (Inside u alpha) (Inside u x)) (Inside u d)) in
+    subst P (sym (divided-apart (times alpha x) d e))
+    (quotients-tightly u u z (not-zero-apart d od e) (exactly-times (exactly-inside u alpha z oa) (exactly-inside u x z ox)) (exactly-inside u d z od))
 
 -- ---- reading, writing, keeping
 not-broken : (a b : ℤ) → IsCell (bounds a b) → broken a b ≡ false
@@ -148,5 +171,8 @@ laws = record {
   sum-grows = sum-grows;
   blend-tight = blend-tight;
   blend-grows = blend-grows;
+  divided-apart = divided-apart;
+  not-zero-apart = not-zero-apart;
+  quotient-tight = quotient-tight;
   join-tight = join-tight;
 }

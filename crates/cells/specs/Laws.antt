@@ -1,19 +1,20 @@
 -- What the parts above may rely on: reading back, what is kept, and for each formula that its cell is tight for the values
 -- that its operands reach, and that these values grow with the operands.
 use mathlib.Core.Path.{_≡_}
-use mathlib.Core.Bool.{true}
+use mathlib.Core.Bool.{true, false}
 use Prim.Native.Nat.{ℕ, _<_}
 use lib.IntN.{ℤ, pos}
 use lib.Signed.{_<ℤ_}
 use Rattle.std.specs.declared.result.Result.the-variants.{Ok}
-use Rattle.arithmetic.specs.Sets.{Included}
-use Rattle.arithmetic.specs.Values.{Value, Ordered, Inside, Within, Tightly}
+use Rattle.arithmetic.specs.Sets.{Included, ProductSet, QuotientSet}
+use Rattle.arithmetic.specs.Values.{Value, Ordered, Inside, Within, Tightly, Apart, times, quotients}
 use Rattle.cells.specs.declared.cell.Record.{Record}
 use Rattle.cells.specs.Cells.{IsCell, read-as, written}
 use Rattle.cells.specs.Faults.{kept}
 use Rattle.cells.specs.Formulas.{dot-cell, DotValues, sum-cell, SumValues, blend-cell, BlendValues}
 use Rattle.cells.specs.Held.{Chosen}
 use Rattle.cells.specs.Questions.{nested}
+use Rattle.cells.specs.Quotients.{zero-in, divided}
 use Rattle.cells.specs.Rules.{IsScale, Admitted, Rule}
 
 pub record Laws : Type 0 where
@@ -44,5 +45,10 @@ pub record Laws : Type 0 where
       → Tightly u (BlendValues (Inside u alpha) (Inside u beta) (Inside u x) (Inside u r)) (blend-cell u alpha beta x r)
   pub blend-grows : (u : ℤ) (alpha beta x r alpha′ beta′ x′ r′ : Value) → Within u alpha alpha′ → Within u beta beta′ → Within u x x′ → Within u r r′
       → Included (BlendValues (Inside u alpha) (Inside u beta) (Inside u x) (Inside u r)) (BlendValues (Inside u alpha′) (Inside u beta′) (Inside u x′) (Inside u r′))
+  -- a quotient by a cell that does not hold 0: the four quotients of bounds, tight for alpha·x over the divisor
+  pub divided-apart : (v d : Value) → zero-in d ≡ false → divided v d ≡ quotients v d
+  pub not-zero-apart : (d : Value) → Ordered d → zero-in d ≡ false → Apart d
+  pub quotient-tight : (u : ℤ) (alpha x d : Value) → pos 0 <ℤ u → Ordered alpha → Ordered x → Ordered d → zero-in d ≡ false
+      → Tightly u (QuotientSet (ProductSet (Inside u alpha) (Inside u x)) (Inside u d)) (divided (times alpha x) d)
   -- a join, for every rule: the values that it admits from what can be chosen out of the operands. How they grow is the rule's own law
   pub join-tight : (rule : Rule) (u : ℤ) (a b : Value) → IsScale u → IsCell a → IsCell b → Tightly u (Admitted (rule .admits) (Chosen u a) (Chosen u b)) (rule .joined a b)

@@ -14,8 +14,8 @@ use crate::cell::Interval;
 use crate::cell::Record;
 use crate::cell::Sum;
 use crate::four::divide;
-use crate::four::greatest_of;
-use crate::four::least_of;
+use crate::four::greatest;
+use crate::four::least;
 use rounding::direction::Direction;
 use rounding::fault::Bound;
 use rounding::fault::RoundingFault;
@@ -46,7 +46,7 @@ fn lower_side(direction: Direction, sums: Sums, by: Interval) -> Result<i32, Rou
     requires apart { ⌜ holds-zero (by .lower) (by .upper) ≡ false ⌝ }
     ensures { λ r. ⌜ r ≡ fitted Lower (least-quotient (sums .least .value) (sums .greatest .value) (by .lower) (by .upper)) ⌝ }
 {
-    fitting(least_of(divide(direction, sums, by)), Bound::Lower)
+    fitting(least(divide(direction, sums, by)), Bound::Lower)
 }
 
 // The greatest of the four quotients, rounded up, where a cell can hold it.
@@ -55,7 +55,7 @@ fn upper_side(direction: Direction, sums: Sums, by: Interval) -> Result<i32, Rou
     requires apart { ⌜ holds-zero (by .lower) (by .upper) ≡ false ⌝ }
     ensures { λ r. ⌜ r ≡ fitted Upper (greatest-quotient (sums .least .value) (sums .greatest .value) (by .lower) (by .upper)) ⌝ }
 {
-    fitting(greatest_of(divide(direction, sums, by)), Bound::Upper)
+    fitting(greatest(divide(direction, sums, by)), Bound::Upper)
 }
 
 // The lower side is looked at first.

@@ -71,13 +71,13 @@ pub(crate) fn divide(direction: Direction, sums: Sums, by: Interval) -> [i64; 4]
     ]
 }
 
-pub(crate) fn least_of(four: [i64; 4]) -> i64
+pub(crate) fn least(four: [i64; 4]) -> i64
     ensures { λ r. ⌜ r ≡ least four ⌝ }
 {
     four[0].min(four[1]).min(four[2].min(four[3]))
 }
 
-pub(crate) fn greatest_of(four: [i64; 4]) -> i64
+pub(crate) fn greatest(four: [i64; 4]) -> i64
     ensures { λ r. ⌜ r ≡ greatest four ⌝ }
 {
     four[0].max(four[1]).max(four[2].max(four[3]))

@@ -13,8 +13,8 @@ use crate::cell::Scale;
 use crate::cell::Sum;
 use crate::cell::Total;
 use crate::cell::Totals;
-use crate::four::greatest_of;
-use crate::four::least_of;
+use crate::four::greatest;
+use crate::four::least;
 use crate::four::multiply;
 use crate::four::multiply_total;
 use rounding::numbers::Divisor;
@@ -33,7 +33,7 @@ pub(crate) fn product(a: Cell, b: Cell) -> Loose
         return Loose::Empty;
     };
     let four = multiply(x, y);
-    Loose::Bounds(least_of(four), greatest_of(four))
+    Loose::Bounds(least(four), greatest(four))
 }
 
 // A cell times a sum of products.
@@ -48,7 +48,7 @@ pub(crate) fn total_product(a: Cell, total: Total) -> Loose
         return Loose::Empty;
     };
     let four = multiply_total(x, y);
-    Loose::Bounds(least_of(four), greatest_of(four))
+    Loose::Bounds(least(four), greatest(four))
 }
 
 // The square of the number of steps.

@@ -1,4 +1,4 @@
-use Rattle.arithmetic.proofs.Floors.{laws}
+use Rattle.arithmetic.proofs.Lawful.{laws}
 use Rattle.arithmetic.proofs.laws_stand.Needs as need
 
 pub returns : need.returns

@@ -16,7 +16,7 @@ pub returns : need.returns
 unfolding least-quotient
 returns c =
     let s = c .args .sums in let by = c .args .by in
-    let f : SFits w64 (c .least-of .result) = search needs in
+    let f : SFits w64 (c .least .result) = search needs in
     let d : c .divide .result ≡ quotients-in Down (s .least .value) (s .greatest .value) (by .lower) (by .upper) =
     c .divide .ensures ∙ ap (λ (way : Direction). quotients-in way (s .least .value) (s .greatest .value) (by .lower) (by .upper)) (c .pre .down) in
-    (simp toZ-ofZ at (c .fitting .ensures)) ∙ ap (fitted Lower) (c .least-of .ensures ∙ ap least d)
+    (simp toZ-ofZ at (c .fitting .ensures)) ∙ ap (fitted Lower) (c .least .ensures ∙ ap least d)

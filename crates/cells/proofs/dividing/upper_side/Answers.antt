@@ -16,7 +16,7 @@ pub returns : need.returns
 unfolding greatest-quotient
 returns c =
     let s = c .args .sums in let by = c .args .by in
-    let f : SFits w64 (c .greatest-of .result) = search needs in
+    let f : SFits w64 (c .greatest .result) = search needs in
     let d : c .divide .result ≡ quotients-in Up (s .least .value) (s .greatest .value) (by .lower) (by .upper) =
     c .divide .ensures ∙ ap (λ (way : Direction). quotients-in way (s .least .value) (s .greatest .value) (by .lower) (by .upper)) (c .pre .up) in
-    (simp toZ-ofZ at (c .fitting .ensures)) ∙ ap (fitted Upper) (c .greatest-of .ensures ∙ ap greatest d)
+    (simp toZ-ofZ at (c .fitting .ensures)) ∙ ap (fitted Upper) (c .greatest .ensures ∙ ap greatest d)
