@@ -27,6 +27,7 @@ use Rattle.cells.specs.Faults.{kept, paired}
 use Rattle.cells.specs.Formulas.{dot-cell, DotValues, sum-cell, SumValues, blend-cell, BlendValues}
 use Rattle.cells.specs.Questions.{nested}
 use Rattle.cells.specs.Quotients.{zero-in, divided}
+use Rattle.cells.specs.JoinLaws.{met-in, met-out, hull-left, hull-right, hull-least}
 use Rattle.cells.specs.Laws.{Laws}
 use Rattle.cells.proofs.JoinTight.{join-tight}
 
@@ -175,4 +176,9 @@ laws = record {
   not-zero-apart = not-zero-apart;
   quotient-tight = quotient-tight;
   join-tight = join-tight;
+  meet-in = met-in;
+  meet-out = met-out;
+  hull-left = hull-left;
+  hull-right = hull-right;
+  hull-least = hull-least;
 }

@@ -36,7 +36,7 @@ ordered-between u a b v = go (ltZ b a)
     go true h = absurd h
     go false h = h
 
-met-in : (u : ℤ) (x y : Value) (v : Fraction) → Inside u x v → Inside u y v → Inside u (met x y) v
+pub met-in : (u : ℤ) (x y : Value) (v : Fraction) → Inside u x v → Inside u y v → Inside u (met x y) v
 met-in u empty y v h k = absurd h
 met-in u (bounds a b) empty v h k = absurd k
 met-in u (bounds a b) (bounds c d) v h k = between-ordered u (maxZ a c) (minZ b d) v (record {
@@ -48,7 +48,7 @@ met-in u (bounds a b) (bounds c d) v h k = between-ordered u (maxZ a c) (minZ b 
     pick true P x y p q = p
     pick false P x y p q = q
 
-met-out : (u : ℤ) (x y : Value) (v : Fraction) → Inside u (met x y) v → Inside u x v × Inside u y v
+pub met-out : (u : ℤ) (x y : Value) (v : Fraction) → Inside u (met x y) v → Inside u x v × Inside u y v
 met-out u empty y v h = absurd h
 met-out u (bounds a b) empty v h = absurd h
 met-out u (bounds a b) (bounds c d) v h =
@@ -100,18 +100,18 @@ meet-same x g = equal-within (met x x) x (meet-keeps x x g g) g (λ v h. met-out
 
 -- ---- hull: it holds both, and lies inside whatever else holds both
 
-hull-left : (x y : Value) → Nested x (hulled x y)
+pub hull-left : (x y : Value) → Nested x (hulled x y)
 hull-left empty y = tt
 hull-left (bounds a b) empty = (omega (arith, ints), omega (arith, ints))
 hull-left (bounds a b) (bounds c d) = (omega (arith, ints, clamps), omega (arith, ints, clamps))
 
-hull-right : (x y : Value) → Nested y (hulled x y)
+pub hull-right : (x y : Value) → Nested y (hulled x y)
 hull-right empty empty = tt
 hull-right empty (bounds c d) = (omega (arith, ints), omega (arith, ints))
 hull-right (bounds a b) empty = tt
 hull-right (bounds a b) (bounds c d) = (omega (arith, ints, clamps), omega (arith, ints, clamps))
 
-hull-least : (x y z : Value) → Nested x z → Nested y z → Nested (hulled x y) z
+pub hull-least : (x y z : Value) → Nested x z → Nested y z → Nested (hulled x y) z
 hull-least empty y z m n = n
 hull-least (bounds a b) empty z m n = m
 hull-least (bounds a b) (bounds c d) empty m n = absurd m

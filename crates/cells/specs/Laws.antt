@@ -6,13 +6,15 @@ use Prim.Native.Nat.{ℕ, _<_}
 use lib.IntN.{ℤ, pos}
 use lib.Signed.{_<ℤ_}
 use Rattle.std.specs.declared.result.Result.the-variants.{Ok}
+use Rattle.arithmetic.specs.Fractions.{Fraction}
 use Rattle.arithmetic.specs.Sets.{Included, ProductSet, QuotientSet}
-use Rattle.arithmetic.specs.Values.{Value, Ordered, Inside, Within, Tightly, Apart, times, quotients}
+use Rattle.arithmetic.specs.Values.{Value, Ordered, Inside, Within, Nested, Tightly, Apart, times, quotients}
 use Rattle.cells.specs.declared.cell.Record.{Record}
 use Rattle.cells.specs.Cells.{IsCell, read-as, written}
 use Rattle.cells.specs.Faults.{kept}
 use Rattle.cells.specs.Formulas.{dot-cell, DotValues, sum-cell, SumValues, blend-cell, BlendValues}
 use Rattle.cells.specs.Held.{Chosen}
+use Rattle.cells.specs.Joins.{met, hulled}
 use Rattle.cells.specs.Questions.{nested}
 use Rattle.cells.specs.Quotients.{zero-in, divided}
 use Rattle.cells.specs.Rules.{IsScale, Admitted, Rule}
@@ -52,3 +54,10 @@ pub record Laws : Type 0 where
       → Tightly u (QuotientSet (ProductSet (Inside u alpha) (Inside u x)) (Inside u d)) (divided (times alpha x) d)
   -- a join, for every rule: the values that it admits from what can be chosen out of the operands. How they grow is the rule's own law
   pub join-tight : (rule : Rule) (u : ℤ) (a b : Value) → IsScale u → IsCell a → IsCell b → Tightly u (Admitted (rule .admits) (Chosen u a) (Chosen u b)) (rule .joined a b)
+  -- meet is the intersection: a fraction is inside it exactly where it is inside both
+  pub meet-in : (u : ℤ) (a b : Value) (v : Fraction) → Inside u a v → Inside u b v → Inside u (met a b) v
+  pub meet-out : (u : ℤ) (a b : Value) (v : Fraction) → Inside u (met a b) v → Inside u a v × Inside u b v
+  -- hull is the least cell that holds both
+  pub hull-left : (a b : Value) → Nested a (hulled a b)
+  pub hull-right : (a b : Value) → Nested b (hulled a b)
+  pub hull-least : (a b c : Value) → Nested a c → Nested b c → Nested (hulled a b) c

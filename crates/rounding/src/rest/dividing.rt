@@ -73,7 +73,7 @@ pub fn fitting(value: i64, bound: Bound) -> Result<i32, RoundingFault>
     Ok(value as i32)
 }
 
-// Of two sums the one with the lesser quotient; they must come in rising order.
+// Of a pair of sums, in rising order, the one with the lesser quotient.
 fn lesser_by(by: Divisor, sums: Sums) -> Unrounded
     ensures { λ r. ⌜ r .value ≡ lesser (by .value) (sums .least .value) (sums .greatest .value) ⌝ }
 {
@@ -84,7 +84,7 @@ fn lesser_by(by: Divisor, sums: Sums) -> Unrounded
     }
 }
 
-// Of two sums the one with the greater quotient.
+// Of a pair of sums, in rising order, the one with the greater quotient.
 fn greater_by(by: Divisor, sums: Sums) -> Unrounded
     ensures { λ r. ⌜ r .value ≡ greater (by .value) (sums .least .value) (sums .greatest .value) ⌝ }
 {
