@@ -1,4 +1,3 @@
 pub mod JoinTight
-mod Joined
 pub mod Lawful
 pub mod Sizing

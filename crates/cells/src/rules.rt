@@ -1,5 +1,8 @@
 // Joining rules: two cells joined into one, by their intersection or by the least cell that holds both.
 ghost use mathlib.Core.Path.{_≡_};
+ghost use lib.IntN.{pos, negsuc};
+ghost use lib.Signed.{_≤ℤ_};
+ghost use Rattle.std.specs.Numbers.{minZ, maxZ};
 ghost use Rattle.cells.specs.Cells.{cell-value};
 ghost use Rattle.cells.specs.Rules.{Rule};
 ghost use Rattle.cells.specs.JoinLaws.{meet, hull};
@@ -23,6 +26,38 @@ pub struct Meet;
 #[derive(Clone, Copy)]
 pub struct Hull;
 
+// The greater of two lower bounds, and the lesser of two upper ones: where both cells are.
+fn meet_lower(x: Interval, y: Interval) -> i32
+    ensures is { λ r. ⌜ r ≡ maxZ (x .lower) (y .lower) ⌝ }
+    ensures low { λ r. ⌜ x .lower ≤ℤ r ⌝ }
+{
+    x.lower.max(y.lower)
+}
+
+fn meet_upper(x: Interval, y: Interval) -> i32
+    ensures is { λ r. ⌜ r ≡ minZ (x .upper) (y .upper) ⌝ }
+    ensures high { λ r. ⌜ r ≤ℤ x .upper ⌝ }
+{
+    x.upper.min(y.upper)
+}
+
+// The lesser of two lower bounds, and the greater of two upper ones: where one of the cells is.
+fn hull_lower(x: Interval, y: Interval) -> i32
+    ensures is { λ r. ⌜ r ≡ minZ (x .lower) (y .lower) ⌝ }
+    ensures low { λ r. ⌜ negsuc 131070 ≤ℤ r ⌝ }
+    ensures under { λ r. ⌜ r ≤ℤ x .lower ⌝ }
+{
+    x.lower.min(y.lower)
+}
+
+fn hull_upper(x: Interval, y: Interval) -> i32
+    ensures is { λ r. ⌜ r ≡ maxZ (x .upper) (y .upper) ⌝ }
+    ensures high { λ r. ⌜ r ≤ℤ pos 131071 ⌝ }
+    ensures above { λ r. ⌜ x .upper ≤ℤ r ⌝ }
+{
+    x.upper.max(y.upper)
+}
+
 pub impl JoinRule for Meet as MeetRule {
     ghost rule = { λ _. meet };
 
@@ -33,8 +68,8 @@ pub impl JoinRule for Meet as MeetRule {
         let Cell::Bounds(y) = b else {
             return Cell::Empty;
         };
-        let lower = x.lower.max(y.lower);
-        let upper = x.upper.min(y.upper);
+        let lower = meet_lower(x, y);
+        let upper = meet_upper(x, y);
         if upper < lower {
             return Cell::Empty;
         }
@@ -53,8 +88,8 @@ pub impl JoinRule for Hull as HullRule {
             return a;
         };
         Cell::Bounds(Interval {
-            lower: x.lower.min(y.lower),
-            upper: x.upper.max(y.upper),
+            lower: hull_lower(x, y),
+            upper: hull_upper(x, y),
         })
     }
 }
