@@ -1,3 +1,4 @@
 pub mod JoinTight
 pub mod Lawful
+mod Products
 pub mod Sizing
