@@ -1,16 +1,13 @@
 -- The laws of fractions: products, sums and other scales of what lies between bounds, and equal fractions treated alike.
 -- Assumes nothing.
-use mathlib.Core.Path.{_≡_, refl, sym, ap, _∙_, subst}
-use mathlib.Core.Logic.{_⊎_, inl, inr}
-use Prim.Native.Nat.{ℕ, zero, suc}
+use mathlib.Core.Path.{_≡_, refl, sym, ap}
 use native.Mathlib.Omega.{arith}
-use lib.IntN.{ℤ, pos, negsuc, negℤ, natAbs, _+ℤ_, _-ℤ_, _*ℤ_, *ℤ-comm}
+use lib.IntN.{ℤ, pos, negsuc, natAbs, _+ℤ_, _*ℤ_}
 use lib.Signed.{_≤ℤ_, _<ℤ_}
 use borrow.Author.Differences.{ints}
-use Rattle.std.specs.Numbers.{minZ, maxZ}
-use Rattle.std.proofs.shelf.Signed.{by-ltZ, clamps}
+use Rattle.std.proofs.shelf.Signed.{clamps}
 use Rattle.arithmetic.specs.Four.{least4, greatest4}
-use Rattle.arithmetic.specs.Fractions.{Fraction, Same, Less, Between, At, add, mul, negative, ratio, inverse, quotient, sign}
+use Rattle.arithmetic.specs.Fractions.{Fraction, Same, Between, At, add, mul, ratio, quotient, sign}
 use Rattle.arithmetic.proofs.Integers.{ring, *ℤ-pos, *ℤ-mono, *ℤ-cancel, *ℤ-cancel-≡, ≤ℤ-trans, mul-above-4, mul-below-4}
 
 pub weak : {s : ℤ} → pos 0 <ℤ s → pos 0 ≤ℤ s

@@ -1,13 +1,13 @@
 -- The ring of whole numbers: the rules that antt's library lacks, as a set that `simp` sorts products by, and how products and
 -- orders go together. Assumes nothing.
-use mathlib.Core.Path.{_≡_, refl, sym, ap, _∙_, subst}
-use Prim.Native.Nat.{ℕ, zero, suc, _+_, _*_, _≤_, _<_}
+use mathlib.Core.Path.{_≡_, ap, _∙_}
+use Prim.Native.Nat.{ℕ, _+_, _*_}
 use native.Mathlib.Omega.{arith}
 use native.Mathlib.Nat.{mul-le-mul-right}
-use lib.IntN.{ℤ, pos, negsuc, negℤ, _+ℤ_, _-ℤ_, _*ℤ_, *ℤ-comm, negℤ-+ℤ, negℤ-negℤ, +ℤ-comm, +ℤ-assoc, zero-*ℤ, *ℤ-zero}
+use lib.IntN.{ℤ, pos, negsuc, negℤ, _+ℤ_, _*ℤ_, *ℤ-comm, negℤ-+ℤ, negℤ-negℤ, zero-*ℤ, *ℤ-zero}
 use lib.Signed.{_≤ℤ_, _<ℤ_, clashℤ}
 use Rattle.std.proofs.shelf.Signed.{by-ltZ}
-use borrow.Author.Differences.{ints, up, down, sum-is, product-is, neg-is, same-in, at-most-in, le-out}
+use borrow.Author.Differences.{ints, up, down, sum-is, product-is, neg-is, same-in, le-out}
 
 pub up-* : (a b : ℤ) → up (a *ℤ b) ≡ up a * up b + down a * down b
 up-* a b = product-is a b .0

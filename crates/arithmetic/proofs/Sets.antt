@@ -1,18 +1,18 @@
 -- Exact bounds of products, sums, negatives and other scales of sets, and that sets grow with what they are made of.
 -- Assumes nothing.
-use mathlib.Core.Path.{_≡_, refl, sym, ap, _∙_, subst}
+use mathlib.Core.Path.{refl, ap}
 use mathlib.Core.Bool.{Bool, true, false, cond}
 use Prim.Native.Nat.{ℕ, zero, suc, _+_, _≤_, _<_}
 use native.Mathlib.Omega.{arith}
-use lib.IntN.{ℤ, pos, negsuc, negℤ, _+ℤ_, _-ℤ_, _*ℤ_, zero-*ℤ}
+use lib.IntN.{ℤ, pos, negℤ, _+ℤ_, _*ℤ_, zero-*ℤ}
 use lib.Signed.{_≤ℤ_, _<ℤ_, ltZ}
 use borrow.Author.Differences.{ints}
 use Rattle.std.specs.Numbers.{minZ, maxZ}
 use Rattle.arithmetic.specs.Four.{least4, greatest4}
-use Rattle.arithmetic.specs.Fractions.{Fraction, Same, Less, Between, At, add, mul, negative, ratio}
+use Rattle.arithmetic.specs.Fractions.{Fraction, Between, At, add, mul, negative, ratio}
 use Rattle.arithmetic.specs.Sets.{Set, Attains, Exact, ProductSet, SumSet, QuotientSet, NegativeSet, ZeroSet, TotalSet, Included}
-use Rattle.arithmetic.proofs.Integers.{ring, *ℤ-mono, *ℤ-cancel, neg-*ℤ}
-use Rattle.arithmetic.proofs.Fractions.{between-mul, between-add, between-same, between-rescale, at-ratio, at-mul, at-add, at-same, at-rescale, same-refl, weak}
+use Rattle.arithmetic.proofs.Integers.{*ℤ-mono, *ℤ-cancel, neg-*ℤ}
+use Rattle.arithmetic.proofs.Fractions.{between-mul, between-add, between-same, between-rescale, at-ratio, at-mul, at-add, at-rescale, same-refl, weak}
 
 pick : (t : Bool) (P : ℤ → Type 0) (a b : ℤ) → P a → P b → P (cond t a b)
 pick true P a b p q = p

@@ -1,21 +1,20 @@
 -- Sizes of sums and products: how large a bound can grow, and that it fits a 64-bit word. Assumes nothing.
 use Prim.Native.Nat.{ℕ, zero, suc, _+_, _*_, _^_, _<_, _≤_}
-use mathlib.Core.Path.{_≡_, refl, ap, sym, _∙_, subst}
-use mathlib.Core.Bool.{cond}
+use mathlib.Core.Path.{_≡_, refl, sym, _∙_, subst}
 use native.Mathlib.Numerals.{add-one}
 use native.Mathlib.Nat.{mul-add, mul-one}
 use native.Mathlib.Omega.{arith}
 use mir.Val.{SFits}
 use mir.Syntax.{w64}
-use lib.IntN.{ℤ, pos, negsuc, natAbs, negℤ, _+ℤ_, _-ℤ_, _*ℤ_, subℕ}
+use lib.IntN.{ℤ, pos, negsuc, natAbs, negℤ, _+ℤ_, _*ℤ_, subℕ}
 use lib.Signed.{ltZ}
 use lib.Dec.{ltb}
 use Rattle.std.specs.Numbers.{minZ, maxZ}
 use Rattle.std.proofs.shelf.Bits.{mul-le}
 use Rattle.std.proofs.shelf.Signed.{ints}
-use Rattle.std.proofs.shelf.Tests.{cond-both, ltb-true, ltb-false}
-use Rattle.arithmetic.specs.Four.{least4, greatest4, least, greatest, products}
-use Rattle.arithmetic.specs.Values.{Value, empty, bounds, plus, opposite, times, rescaled, total, Small}
+use Rattle.std.proofs.shelf.Tests.{cond-both, ltb-true}
+use Rattle.arithmetic.specs.Four.{least4, greatest4}
+use Rattle.arithmetic.specs.Values.{Value, empty, bounds, plus, opposite, times, total, Small}
 
 -- ---- one number
 sub-size : (a b : ℕ) → natAbs (subℕ a b) ≤ a + b

@@ -1,15 +1,14 @@
 -- Rounding an exact set gives tight bounds, the four quotients too; tight bounds grow with their set and are the only ones.
 -- Assumes nothing.
-use mathlib.Core.Path.{_≡_, refl, sym, ap, _∙_, subst}
-use mathlib.Core.Logic.{_⊎_, inl, inr, ⊎-elim}
-use Prim.Native.Nat.{ℕ, zero, suc}
+use mathlib.Core.Path.{_≡_, sym, ap, _∙_}
+use mathlib.Core.Logic.{_⊎_, ⊎-elim}
 use native.Mathlib.Omega.{arith}
-use lib.IntN.{ℤ, pos, negsuc, negℤ, natAbs, _+ℤ_, _-ℤ_, _*ℤ_, negℤ-negℤ, zero-*ℤ}
+use lib.IntN.{ℤ, pos, negsuc, negℤ, _+ℤ_, _-ℤ_, _*ℤ_, zero-*ℤ}
 use lib.Signed.{_≤ℤ_, _<ℤ_, clashℤ}
 use borrow.Author.Differences.{ints}
 use Rattle.std.proofs.shelf.Signed.{by-ltZ, clamps}
 use Rattle.arithmetic.specs.Four.{least4, greatest4}
-use Rattle.arithmetic.specs.Fractions.{Fraction, Same, Between, At, add, negative, mul, quotient}
+use Rattle.arithmetic.specs.Fractions.{Fraction, Same, Between, At, negative, mul, quotient}
 use Rattle.arithmetic.specs.Sets.{Set, Exact, Attains, QuotientSet}
 use Rattle.arithmetic.proofs.Integers.{ring, *ℤ-mono, *ℤ-cancel, *ℤ-cancel-≡, *ℤ-pos, ≤ℤ-trans, mul-above, mul-below, +ℤ-*ℤ, one-*, neg-*ℤ, *ℤ-neg}
 use Rattle.arithmetic.proofs.Fractions.{quotient-is, weak, between-weaken}

@@ -1,17 +1,15 @@
 -- How exact and tight values are made of one another, and what tightness gives. Assumes nothing.
-use mathlib.Core.Path.{_≡_, refl, sym, ap, _∙_, subst}
-use mathlib.Core.Bool.{Bool, true, false, cond}
-use mathlib.Core.Logic.{_⊎_, inl, inr}
+use mathlib.Core.Path.{_≡_, refl, ap, _∙_}
+use mathlib.Core.Logic.{inl, inr}
 use Prim.Native.Nat.{ℕ, zero, suc, _+_, _≤_, _<_}
 use native.Mathlib.Omega.{arith}
-use lib.IntN.{ℤ, pos, negsuc, negℤ, _+ℤ_, _*ℤ_}
+use lib.IntN.{ℤ, pos, _*ℤ_}
 use lib.Signed.{_≤ℤ_, _<ℤ_}
 use borrow.Author.Differences.{ints}
-use Rattle.arithmetic.specs.Fractions.{Fraction, Same, Between}
-use Rattle.arithmetic.specs.Sets.{Set, Exact, ProductSet, SumSet, NegativeSet, QuotientSet, ZeroSet, TotalSet, Included}
-use Rattle.arithmetic.specs.Tight.{Tight}
+use Rattle.arithmetic.specs.Fractions.{Fraction, Same}
+use Rattle.arithmetic.specs.Sets.{Set, ProductSet, SumSet, NegativeSet, QuotientSet, TotalSet, Included}
 use Rattle.arithmetic.specs.Values.{Value, empty, bounds, Ordered, Inside, Within, Nested, Exactly, none, some, Tightly, void, near, times, plus, opposite, rescaled, total, rounded, quotients, Apart}
-use Rattle.arithmetic.proofs.Fractions.{weak, between-weaken, between-same}
+use Rattle.arithmetic.proofs.Fractions.{between-weaken, between-same}
 use Rattle.arithmetic.proofs.Sets.{exact-between, exact-mul, exact-add, exact-negative, exact-rescale, exact-zero, exact-within}
 use Rattle.arithmetic.proofs.Tight.{round-law, mono-law, quotient-law, exact-tight, tight-order, tight-unique}
 

@@ -1,10 +1,10 @@
 -- Fractions: a whole number over a positive one. Cross products decide which are equal and which is less.
 -- They stand in statements only: no program computes with them.
 use mathlib.Core.Path.{_≡_}
-use Prim.Native.Nat.{ℕ, zero, suc}
+use Prim.Native.Nat.{zero, suc}
 use native.Mathlib.Omega.{arith}
 use borrow.Author.Differences.{ints}
-use lib.IntN.{ℤ, pos, negsuc, negℤ, natAbs, _+ℤ_, _-ℤ_, _*ℤ_}
+use lib.IntN.{ℤ, pos, negsuc, negℤ, natAbs, _+ℤ_, _*ℤ_}
 use lib.Signed.{_≤ℤ_, _<ℤ_}
 
 pub record Fraction : Type 0 where

@@ -3,7 +3,6 @@
 -- lemmas in proofs/ have them for all.
 use mathlib.Core.Path.{_≡_}
 use mathlib.Core.Bool.{Bool, true}
-use mathlib.Core.Logic.{_⊎_}
 use lib.IntN.{ℤ, pos, _*ℤ_}
 use lib.Signed.{_<ℤ_}
 use Rattle.arithmetic.specs.Fractions.{Fraction}

@@ -1,9 +1,9 @@
 -- Division of a whole number by any other but 0, rounded down (the floor) or up (the ceiling).
 use mathlib.Core.Path.{_≡_}
-use Prim.Native.Nat.{ℕ, suc}
+use Prim.Native.Nat.{suc}
 use lib.IntN.{ℤ, pos, negsuc, negℤ, _+ℤ_, _-ℤ_}
 use lib.Signed.{_≤ℤ_, shrZ}
-use Rattle.arithmetic.specs.Fractions.{Fraction, Less, AtMost, whole, quotient}
+use Rattle.arithmetic.specs.Fractions.{Less, AtMost, whole, quotient}
 
 -- shrZ divides by a natural number and rounds down; a negative divisor turns both signs
 abbrev pub floor : ℤ → ℤ → ℤ

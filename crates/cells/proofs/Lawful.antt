@@ -1,8 +1,8 @@
 -- The laws of cells, each from the combinators of exact and tight values. Assumes nothing.
 use mathlib.Core.Path.{_≡_, refl, sym, ap, _∙_, subst}
-use mathlib.Core.Bool.{Bool, true, false, cond, _&&_, _||_}
+use mathlib.Core.Bool.{Bool, true, false, cond, _||_}
 use mathlib.Core.Logic.{inl, inr, ⊎-elim}
-use Prim.Native.Nat.{ℕ, _+_, _≤_, _<_}
+use Prim.Native.Nat.{ℕ, _<_}
 use native.Mathlib.Omega.{arith}
 use lib.IntN.{ℤ, pos, negsuc, _*ℤ_}
 use lib.Signed.{_≤ℤ_, _<ℤ_, leZ, ltZ}
@@ -11,7 +11,7 @@ use Rattle.std.specs.declared.result.Result.{Result}
 use Rattle.std.specs.declared.result.Result.the-variants.{Ok, Err}
 use Rattle.std.proofs.shelf.Signed.{by-ltZ}
 use Rattle.std.proofs.shelf.Tests.{and-parts, and-from, and-cases, or-parts, or-from, false≢true}
-use Rattle.arithmetic.specs.Sets.{Set, TotalSet, ProductSet, SumSet, QuotientSet, Included}
+use Rattle.arithmetic.specs.Sets.{TotalSet, ProductSet, QuotientSet, Included}
 use Rattle.arithmetic.specs.Values.{Value, empty, bounds, Ordered, Inside, Within, Nested, Exactly, Tightly, Apart, times, total, quotients}
 use Rattle.arithmetic.proofs.Integers.{*ℤ-assoc, *ℤ-pos}
 use Rattle.arithmetic.proofs.Fractions.{weak}

@@ -1,5 +1,5 @@
 -- The least and the greatest of four products, once they are told as numbers, are the bounds of the product. Assumes nothing.
-use mathlib.Core.Path.{_≡_, refl, sym, ap, _∙_, subst}
+use mathlib.Core.Path.{_≡_, sym, ap, _∙_, subst}
 use Prim.Native.Nat.{ℕ, _*_}
 use lib.IntN.{ℤ}
 use Rattle.arithmetic.specs.Four.{least, greatest, products}

@@ -1,7 +1,7 @@
 -- The four quotients of bounds, rounded in a direction, and a sum divided by a cell.
-use mathlib.Core.Bool.{Bool, true, false, cond}
+use mathlib.Core.Bool.{Bool, false, cond}
 use mathlib.Core.List.{List, [], _∷_}
-use lib.IntN.{ℤ, pos}
+use lib.IntN.{ℤ}
 use Rattle.arithmetic.specs.Values.{Value, empty, bounds, least-quotient, greatest-quotient, holds-zero}
 use Rattle.rounding.specs.declared.direction.Direction.{Direction}
 use Rattle.rounding.specs.Outward.{rounded-in}

@@ -2,8 +2,8 @@
 // greatest of four numbers.
 ghost use mathlib.Core.Path.{_≡_};
 ghost use mathlib.Core.Bool.{false};
-ghost use Prim.Native.Nat.{ℕ, _≤_, _^_};
-ghost use lib.IntN.{ℤ, natAbs, _*ℤ_};
+ghost use Prim.Native.Nat.{_≤_, _^_};
+ghost use lib.IntN.{natAbs, _*ℤ_};
 ghost use Rattle.arithmetic.specs.Four.{least, greatest, products};
 ghost use Rattle.arithmetic.specs.Values.{holds-zero};
 ghost use Rattle.cells.specs.Quotients.{quotients-in};

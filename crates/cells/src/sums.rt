@@ -2,8 +2,8 @@
 // The sizes say why no word overflows: a product is at most 131,071 squared, 1,024 of them stay below 2^44, a cell times
 // that below 2^61, and a product times the scale below 2^51.
 ghost use mathlib.Core.Path.{_≡_};
-ghost use Prim.Native.Nat.{ℕ, _*_, _-_, _≤_, _^_};
-ghost use lib.IntN.{ℤ, pos, natAbs, _*ℤ_};
+ghost use Prim.Native.Nat.{_*_, _-_, _≤_, _^_};
+ghost use lib.IntN.{pos, natAbs, _*ℤ_};
 ghost use lib.Signed.{_≤ℤ_, _<ℤ_};
 ghost use Rattle.arithmetic.specs.Values.{times, plus, opposite, rescaled, Small};
 ghost use Rattle.cells.specs.Cells.{cell-value, loose-value, total-value, sum-value};

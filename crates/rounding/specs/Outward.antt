@@ -1,6 +1,5 @@
 -- A quotient rounded in a direction, the limit of a bound, and a pair of sums rounded outward.
-use mathlib.Core.Bool.{Bool, true, false, cond, _||_}
-use Prim.Native.Nat.{ℕ}
+use mathlib.Core.Bool.{Bool, cond, _||_}
 use lib.IntN.{ℤ, pos, negsuc}
 use lib.Signed.{ltZ}
 use Rattle.std.specs.declared.result.Result.{Result}

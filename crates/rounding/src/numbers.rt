@@ -1,7 +1,7 @@
 // Whole numbers that carry their ranges: what is divided, and by what.
 ghost use mathlib.Core.Path.{_≡_};
-ghost use Prim.Native.Nat.{ℕ, _<_, _≤_, _^_};
-ghost use lib.IntN.{ℤ, pos, natAbs};
+ghost use Prim.Native.Nat.{_<_, _≤_, _^_};
+ghost use lib.IntN.{pos, natAbs};
 ghost use Rattle.std.specs.Options.{Cases};
 
 // An unrounded sum: one signed 64-bit number below 2^62 in size.

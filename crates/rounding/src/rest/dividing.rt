@@ -1,10 +1,10 @@
 // One division in a direction, the limit of a bound, and a pair of sums rounded outward.
 ghost use mathlib.Core.Path.{_≡_};
-ghost use Prim.Native.Nat.{ℕ, _<_, _≤_, _^_};
-ghost use lib.IntN.{ℤ, pos, natAbs};
+ghost use Prim.Native.Nat.{_<_, _^_};
+ghost use lib.IntN.{pos, natAbs};
 ghost use Rattle.arithmetic.specs.Rounding.{floor, ceiling};
 ghost use Rattle.arithmetic.specs.Values.{lesser, greater};
-ghost use Rattle.rounding.specs.declared.direction.Direction.the-variants.{Down, Up};
+ghost use Rattle.rounding.specs.declared.direction.Direction.the-variants.{Down};
 ghost use Rattle.rounding.specs.Outward.{rounded-in, fitted, rounded-out};
 use crate::direction::Direction;
 use crate::fault::Bound;

@@ -1,9 +1,8 @@
-use borrow.Author.Needs.{needs}
 use native.Mathlib.Omega.{arith}
 use Prim.Native.Nat.{_^_}
-use lib.IntN.{ℤ, _*ℤ_}
+use lib.IntN.{_*ℤ_}
 use mir.Val.{SFits}
-use mir.Syntax.{w32, w64}
+use mir.Syntax.{w64}
 use Rattle.std.proofs.shelf.Signed.{toZ-ofZ}
 use Rattle.arithmetic.proofs.Sizes.{size-mul, size-fits}
 use Rattle.cells.proofs.four.times_wide.Needs as need

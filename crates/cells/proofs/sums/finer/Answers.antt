@@ -1,9 +1,9 @@
 use borrow.Author.Needs.{needs}
 use native.Mathlib.Omega.{arith}
-use Prim.Native.Nat.{_^_, _≤_}
-use lib.IntN.{ℤ, _*ℤ_, natAbs}
+use Prim.Native.Nat.{_≤_}
+use lib.IntN.{_*ℤ_, natAbs}
 use mir.Val.{SFits}
-use mir.Syntax.{w32, w64}
+use mir.Syntax.{w64}
 use Rattle.std.proofs.shelf.Signed.{toZ-ofZ, ints}
 use Rattle.arithmetic.proofs.Sizes.{size-mul, size-fits}
 use Rattle.cells.proofs.sums.finer.Needs as need

@@ -1,10 +1,10 @@
 use borrow.Author.Needs.{needs}
-use mathlib.Core.Path.{_≡_, ap, _∙_}
+use mathlib.Core.Path.{ap, _∙_}
 use Prim.Native.Nat.{_^_}
 use mir.Val.{SFits}
 use mir.Syntax.{w64}
 use Rattle.std.proofs.shelf.Signed.{toZ-ofZ}
-use Rattle.arithmetic.specs.Four.{least, greatest, products}
+use Rattle.arithmetic.specs.Four.{least, greatest}
 use Rattle.cells.specs.Cells.{cell-value, total-value}
 use Rattle.cells.proofs.Products.{product-is, product-small}
 use Rattle.cells.proofs.Sizing.{small-interval, small-totals}
