@@ -4,7 +4,7 @@ use mathlib.Core.Bool.{Bool, true, false, cond, _||_}
 use mathlib.Core.Logic.{inl, inr, ⊎-elim}
 use Prim.Native.Nat.{ℕ, _<_}
 use native.Mathlib.Omega.{arith}
-use lib.IntN.{ℤ, pos, negsuc, _*ℤ_}
+use lib.IntN.{ℤ, pos, _*ℤ_}
 use lib.Signed.{_≤ℤ_, _<ℤ_, leZ, ltZ}
 use borrow.Author.Differences.{ints}
 use Rattle.std.specs.declared.result.Result.{Result}
@@ -20,6 +20,7 @@ use Rattle.arithmetic.proofs.Tests.{leZ-true, true-leZ}
 use Rattle.arithmetic.proofs.Values.{exactly-inside, exactly-times, exactly-plus, exactly-rescaled, exactly-total, exactly-tightly, rounded-tightly, quotients-tightly, nested-within, within-nested}
 use Rattle.rounding.specs.declared.fault.Bound.the-variants.{Lower, Upper}
 use Rattle.rounding.specs.declared.fault.RoundingFault.{RoundingFault}
+use Rattle.rounding.specs.Limit.{lowest, highest}
 use Rattle.rounding.specs.Outward.{beyond, both}
 use Rattle.cells.specs.declared.cell.Record.{Record}
 use Rattle.cells.specs.Cells.{IsCell, broken, read-as, written}
@@ -96,10 +97,10 @@ quotient-tight u alpha x d z oa ox od e =
 -- ---- reading, writing, keeping
 not-broken : (a b : ℤ) → IsCell (bounds a b) → broken a b ≡ false
 not-broken a b h =
-    let low : false ≡ ltZ a (negsuc 131070) = omega (arith, ints) in
-    let high : false ≡ ltZ (pos 131071) b = omega (arith, ints) in
+    let low : false ≡ ltZ a lowest = omega (arith, ints) in
+    let high : false ≡ ltZ highest b = omega (arith, ints) in
     let order : false ≡ ltZ b a = omega (arith, ints) in
-    or-from (ltZ a (negsuc 131070)) (ltZ (pos 131071) b || ltZ b a) (sym low) (or-from (ltZ (pos 131071) b) (ltZ b a) (sym high) (sym order))
+    or-from (ltZ a lowest) (ltZ highest b || ltZ b a) (sym low) (or-from (ltZ highest b) (ltZ b a) (sym high) (sym order))
 
 read-cell : (r : Record) → IsCell (read-as r)
 read-cell r = go (broken (r .lower) (r .upper)) refl
@@ -107,22 +108,22 @@ read-cell r = go (broken (r .lower) (r .upper)) refl
     go : (t : Bool) → broken (r .lower) (r .upper) ≡ t → IsCell (cond t empty (bounds (r .lower) (r .upper)))
     go true e = tt
     go false e =
-        let p = or-parts (ltZ (r .lower) (negsuc 131070)) (ltZ (pos 131071) (r .upper) || ltZ (r .upper) (r .lower)) e in
-        let q = or-parts (ltZ (pos 131071) (r .upper)) (ltZ (r .upper) (r .lower)) (p .1) in
+        let p = or-parts (ltZ (r .lower) lowest) (ltZ highest (r .upper) || ltZ (r .upper) (r .lower)) e in
+        let q = or-parts (ltZ highest (r .upper)) (ltZ (r .upper) (r .lower)) (p .1) in
         (omega (arith, ints, p .0), omega (arith, ints, q .1), omega (arith, ints, q .0))
 
 read-written : (c : Value) → IsCell c → read-as (written c) ≡ c
 read-written empty h = refl
 read-written (bounds a b) h = ap (λ (t : Bool). cond t empty (bounds a b)) (not-broken a b h)
 
-not-beyond : (z : ℤ) → negsuc 131070 ≤ℤ z → z ≤ℤ pos 131071 → beyond z ≡ false
+not-beyond : (z : ℤ) → lowest ≤ℤ z → z ≤ℤ highest → beyond z ≡ false
 not-beyond z h k =
-    let low : false ≡ ltZ z (negsuc 131070) = omega (arith, ints) in
-    let high : false ≡ ltZ (pos 131071) z = omega (arith, ints) in
-    or-from (ltZ z (negsuc 131070)) (ltZ (pos 131071) z) (sym low) (sym high)
+    let low : false ≡ ltZ z lowest = omega (arith, ints) in
+    let high : false ≡ ltZ highest z = omega (arith, ints) in
+    or-from (ltZ z lowest) (ltZ highest z) (sym low) (sym high)
 
-within-limit : (z : ℤ) → beyond z ≡ false → (negsuc 131070 ≤ℤ z) × (z ≤ℤ pos 131071)
-within-limit z e = let p = or-parts (ltZ z (negsuc 131070)) (ltZ (pos 131071) z) e in (omega (arith, ints, p .0), omega (arith, ints, p .1))
+within-limit : (z : ℤ) → beyond z ≡ false → (lowest ≤ℤ z) × (z ≤ℤ highest)
+within-limit z e = let p = or-parts (ltZ z lowest) (ltZ highest z) e in (omega (arith, ints, p .0), omega (arith, ints, p .1))
 
 -- the record of two bounds, by what the limit says of each
 abbrev kept-by : ℤ → ℤ → Bool → Bool → Result Record RoundingFault

@@ -2,10 +2,11 @@
 use mathlib.Core.Bool.{Bool, cond, _||_}
 use mathlib.Core.List.{List}
 use Prim.Native.Nat.{ℕ}
-use lib.IntN.{ℤ, pos, negsuc}
+use lib.IntN.{ℤ, pos}
 use lib.Signed.{_≤ℤ_, ltZ}
 use lib.ListN.{getD}
 use Rattle.arithmetic.specs.Values.{Value, empty, bounds}
+use Rattle.rounding.specs.Limit.{lowest, highest}
 use Rattle.cells.specs.declared.cell.Cell.{Cell}
 use Rattle.cells.specs.declared.cell.Cell.the-variants as cell
 use Rattle.cells.specs.declared.cell.Record.{Record}
@@ -34,14 +35,14 @@ abbrev pub loose-value : Loose → Value
 loose-value loose.Empty = empty
 loose-value (loose.Bounds a b) = bounds a b
 
--- the rule of a cell: empty, or bounds in order, neither beyond the limit of 131,071 in size
+-- the rule of a cell: empty, or bounds in order, neither beyond the limit in size
 abbrev pub IsCell : Value → Type 0
 IsCell empty = Unit {0}
-IsCell (bounds a b) = (negsuc 131070 ≤ℤ a) × (a ≤ℤ b) × (b ≤ℤ pos 131071)
+IsCell (bounds a b) = (lowest ≤ℤ a) × (a ≤ℤ b) × (b ≤ℤ highest)
 
 -- the two numbers break the rule
 abbrev pub broken : ℤ → ℤ → Bool
-broken l u = ltZ l (negsuc 131070) || (ltZ (pos 131071) u || ltZ u l)
+broken l u = ltZ l lowest || (ltZ highest u || ltZ u l)
 
 -- a record that breaks the rule reads as the empty cell
 abbrev pub read-as : Record → Value

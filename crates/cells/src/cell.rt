@@ -1,7 +1,8 @@
 // The types. They have a file of their own, since the definitions that the functions cite name them.
 ghost use Prim.Native.Nat.{_≤_};
-ghost use lib.IntN.{pos, negsuc, natAbs};
+ghost use lib.IntN.{pos, natAbs};
 ghost use lib.Signed.{_≤ℤ_};
+ghost use Rattle.rounding.specs.Limit.{lowest, highest};
 use rounding::numbers::Sums;
 
 // A cell as it lies in supplied memory: any two numbers may stand there.
@@ -20,9 +21,9 @@ pub const EMPTY: Record = Record { lower: 1, upper: 0 };
 pub struct Interval {
     pub lower: i32,
     pub upper: i32,
-    ghost low: { negsuc 131070 ≤ℤ lower },
+    ghost low: { lowest ≤ℤ lower },
     ghost order: { lower ≤ℤ upper },
-    ghost high: { upper ≤ℤ pos 131071 },
+    ghost high: { upper ≤ℤ highest },
 }
 
 #[derive(Clone, Copy)]

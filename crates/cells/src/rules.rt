@@ -1,8 +1,8 @@
 // Joining rules: two cells joined into one, by their intersection or by the least cell that holds both.
 ghost use mathlib.Core.Path.{_≡_};
-ghost use lib.IntN.{pos, negsuc};
 ghost use lib.Signed.{_≤ℤ_};
 ghost use Rattle.std.specs.Numbers.{minZ, maxZ};
+ghost use Rattle.rounding.specs.Limit.{lowest, highest};
 ghost use Rattle.cells.specs.Cells.{cell-value};
 ghost use Rattle.cells.specs.Rules.{Rule};
 ghost use Rattle.cells.specs.JoinLaws.{meet, hull};
@@ -44,7 +44,7 @@ fn meet_upper(x: Interval, y: Interval) -> i32
 // The lesser of two lower bounds, and the greater of two upper ones: where one of the cells is.
 fn hull_lower(x: Interval, y: Interval) -> i32
     ensures is { λ r. ⌜ r ≡ minZ (x .lower) (y .lower) ⌝ }
-    ensures low { λ r. ⌜ negsuc 131070 ≤ℤ r ⌝ }
+    ensures low { λ r. ⌜ lowest ≤ℤ r ⌝ }
     ensures under { λ r. ⌜ r ≤ℤ x .lower ⌝ }
 {
     x.lower.min(y.lower)
@@ -52,7 +52,7 @@ fn hull_lower(x: Interval, y: Interval) -> i32
 
 fn hull_upper(x: Interval, y: Interval) -> i32
     ensures is { λ r. ⌜ r ≡ maxZ (x .upper) (y .upper) ⌝ }
-    ensures high { λ r. ⌜ r ≤ℤ pos 131071 ⌝ }
+    ensures high { λ r. ⌜ r ≤ℤ highest ⌝ }
     ensures above { λ r. ⌜ x .upper ≤ℤ r ⌝ }
 {
     x.upper.max(y.upper)

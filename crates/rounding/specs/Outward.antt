@@ -1,11 +1,12 @@
 -- A quotient rounded in a direction, the limit of a bound, and a pair of sums rounded outward.
 use mathlib.Core.Bool.{Bool, cond, _||_}
-use lib.IntN.{ℤ, pos, negsuc}
+use lib.IntN.{ℤ}
 use lib.Signed.{ltZ}
 use Rattle.std.specs.declared.result.Result.{Result}
 use Rattle.std.specs.declared.result.Result.the-variants.{Ok, Err}
 use Rattle.arithmetic.specs.Rounding.{floor, ceiling}
 use Rattle.arithmetic.specs.Values.{lesser, greater}
+use Rattle.rounding.specs.Limit.{lowest, highest}
 use Rattle.rounding.specs.declared.direction.Direction.{Direction}
 use Rattle.rounding.specs.declared.direction.Direction.the-variants.{Down, Up}
 use Rattle.rounding.specs.declared.fault.Bound.{Bound}
@@ -17,9 +18,9 @@ abbrev pub rounded-in : Direction → ℤ → ℤ → ℤ
 rounded-in Down n d = floor n d
 rounded-in Up n d = ceiling n d
 
--- beyond the limit, 131,071, in size
+-- beyond the limit in size
 abbrev pub beyond : ℤ → Bool
-beyond z = ltZ z (negsuc 131070) || ltZ (pos 131071) z
+beyond z = ltZ z lowest || ltZ highest z
 
 -- a bound within the limit, or the fault that names it
 abbrev pub fitted : Bound → ℤ → Result ℤ RoundingFault
