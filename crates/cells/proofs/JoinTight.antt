@@ -8,7 +8,8 @@ use Rattle.arithmetic.specs.Values.{Value, empty, bounds, Inside, Exactly, none
 use Rattle.arithmetic.proofs.Values.{exactly-tightly}
 use Rattle.cells.specs.Cells.{IsCell}
 use Rattle.cells.specs.Held.{Held, nothing, held, Holds, Chosen}
-use Rattle.cells.specs.Rules.{IsScale, End, Admitted, ReachedAt, Rule}
+use Rattle.cells.specs.Rules.{End, Admitted, ReachedAt, Rule}
+use Rattle.cells.specs.Scales.{IsScale}
 
 -- what can be chosen from a cell is inside it
 chosen-holds : (u : ℤ) (c : Value) (p : Held) → Chosen u c p → Holds u c p

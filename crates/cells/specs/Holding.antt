@@ -15,7 +15,8 @@ use Rattle.arithmetic.proofs.Tests.{leZ-true, true-leZ}
 use Rattle.arithmetic.proofs.Values.{within-nested, inside-same}
 use Rattle.cells.specs.Cells.{IsCell}
 use Rattle.cells.specs.Held.{Held, nothing, held, Holds, Chosen, Alike}
-use Rattle.cells.specs.Rules.{IsScale, End, ReachedAt}
+use Rattle.cells.specs.Rules.{End, ReachedAt}
+use Rattle.cells.specs.Scales.{IsScale}
 use Rattle.cells.specs.Joins.{same-fraction, has}
 
 -- ---- what it is to have a fraction

@@ -16,7 +16,8 @@ use Rattle.arithmetic.proofs.Fractions.{between-weaken}
 use Rattle.arithmetic.proofs.Values.{nested-within, within-nested}
 use Rattle.cells.specs.Cells.{IsCell}
 use Rattle.cells.specs.Held.{Held, held, Holds, Alike}
-use Rattle.cells.specs.Rules.{IsScale, End, ReachedAt, Rule}
+use Rattle.cells.specs.Rules.{End, ReachedAt, Rule}
+use Rattle.cells.specs.Scales.{IsScale}
 use Rattle.cells.specs.Joins.{has, if-ordered, met, meet-admits, hulled, hull-admits}
 use Rattle.cells.specs.Holding.{has-self, has-alike, has-inside, scale-positive, cell-ordered, end-inside, choice, reached-at, equal-bounds, equal-nested, equal-within}
 

@@ -17,7 +17,8 @@ use Rattle.cells.specs.Held.{Chosen}
 use Rattle.cells.specs.Joins.{met, hulled}
 use Rattle.cells.specs.Questions.{nested}
 use Rattle.cells.specs.Quotients.{zero-in, divided}
-use Rattle.cells.specs.Rules.{IsScale, Admitted, Rule}
+use Rattle.cells.specs.Rules.{Admitted, Rule}
+use Rattle.cells.specs.Scales.{IsScale}
 
 pub record Laws : Type 0 where
   -- every record reads as a cell, and a cell that was written reads as itself

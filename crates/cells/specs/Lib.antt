@@ -10,4 +10,5 @@ pub mod Laws
 pub mod Questions
 pub mod Quotients
 pub mod Rules
+pub mod Scales
 pub mod Worked

@@ -2,16 +2,12 @@
 use mathlib.Core.Path.{_≡_}
 use mathlib.Core.Bool.{Bool, true}
 use mathlib.Core.Logic.{_⊎_}
-use lib.IntN.{ℤ, pos}
-use lib.Signed.{_≤ℤ_}
+use lib.IntN.{ℤ}
 use Rattle.arithmetic.specs.Fractions.{Fraction, Same, At}
 use Rattle.arithmetic.specs.Values.{Value, empty, bounds, Inside, Within}
 use Rattle.cells.specs.Cells.{IsCell}
 use Rattle.cells.specs.Held.{Held, Holds, Chosen, Alike}
-
--- the legal scales, from 1 to 100,000 steps to one unit
-abbrev pub IsScale : ℤ → Type 0
-IsScale u = (pos 1 ≤ℤ u) × (u ≤ℤ pos 100000)
+use Rattle.cells.specs.Scales.{IsScale}
 
 -- e is a bound of the cell c
 abbrev pub End : ℤ → Value → Type 0

@@ -1,8 +1,9 @@
 // The types. They have a file of their own, since the definitions that the functions cite name them.
 ghost use Prim.Native.Nat.{_≤_};
-ghost use lib.IntN.{pos, natAbs};
+ghost use lib.IntN.{natAbs};
 ghost use lib.Signed.{_≤ℤ_};
 ghost use Rattle.rounding.specs.Limit.{lowest, highest};
+ghost use Rattle.cells.specs.Scales.{IsScale};
 use rounding::numbers::Sums;
 
 // A cell as it lies in supplied memory: any two numbers may stand there.
@@ -36,8 +37,7 @@ pub enum Cell {
 #[derive(Clone, Copy)]
 pub struct Scale {
     pub steps: i64,
-    ghost least: { pos 1 ≤ℤ steps },
-    ghost most: { steps ≤ℤ pos 100000 },
+    ghost legal: { IsScale steps },
 }
 
 // The number of terms of a sum, from 0 to 1,024.

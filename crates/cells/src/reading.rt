@@ -1,10 +1,9 @@
 // Records read as cells, cells written as records, and the checked makers of the numbers with ranges.
 ghost use mathlib.Core.Path.{_≡_};
 ghost use Prim.Native.Nat.{_<_, _≤_};
-ghost use lib.IntN.{pos};
-ghost use lib.Signed.{_≤ℤ_};
 ghost use Rattle.std.specs.Options.{Cases};
 ghost use Rattle.cells.specs.Cells.{cell-value, read-as, written, cell-at};
+ghost use Rattle.cells.specs.Scales.{IsScale};
 use crate::cell::Cell;
 use crate::cell::EMPTY;
 use crate::cell::Interval;
@@ -53,7 +52,7 @@ pub fn cell_at(run: &[Record], place: usize) -> Cell
 impl Scale {
     // None for a number below 1 or above 100,000.
     pub fn new(steps: i64) -> Option<Scale>
-        ensures { λ r. ⌜ Cases r (pos 1 ≤ℤ steps → steps ≤ℤ pos 100000 → ⊥) (λ s. (pos 1 ≤ℤ steps) × (steps ≤ℤ pos 100000) × (s .steps ≡ steps)) ⌝ }
+        ensures { λ r. ⌜ Cases r (IsScale steps → ⊥) (λ s. IsScale steps × (s .steps ≡ steps)) ⌝ }
     {
         if steps < 1 || steps > 100_000 {
             return None;

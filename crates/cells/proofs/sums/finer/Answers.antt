@@ -1,29 +1,25 @@
 use borrow.Author.Needs.{needs}
 use native.Mathlib.Omega.{arith}
-use Prim.Native.Nat.{_≤_}
-use lib.IntN.{_*ℤ_, natAbs}
+use lib.IntN.{_*ℤ_}
 use mir.Val.{SFits}
 use mir.Syntax.{w64}
-use Rattle.std.proofs.shelf.Signed.{toZ-ofZ, ints}
+use Rattle.std.proofs.shelf.Signed.{toZ-ofZ}
 use Rattle.arithmetic.proofs.Sizes.{size-mul, size-fits}
+use Rattle.cells.proofs.Sizing.{small-scale}
 use Rattle.cells.proofs.sums.finer.Needs as need
 
 pub mul-result : need.mul-result
 mul-result c =
-    let a = c .fits .a in
-    let b : SFits w64 (c .args .scale .steps) = search needs in
-    let l = c .args .scale .least in
-    let m = c .args .scale .most in
-    let few : natAbs (c .args .scale .steps) ≤ 100000 = omega (arith, ints) in
-    simp toZ-ofZ (size-fits (c .args .a *ℤ c .args .scale .steps) (omega (arith, size-mul (c .args .a) (c .args .scale .steps) 17179607041 100000 (c .pre) few)))
+    let a = c .args .a in let u = c .args .scale .steps in
+    let fa = c .fits .a in
+    let fu : SFits w64 u = search needs in
+    simp toZ-ofZ (size-fits (a *ℤ u) (omega (arith, size-mul a u 17179607041 100000 (c .pre) (small-scale u (c .args .scale .legal)))))
 
 pub returns : need.returns
 returns c =
-    let a = c .fits .a in
-    let b : SFits w64 (c .args .scale .steps) = search needs in
-    let l = c .args .scale .least in
-    let m = c .args .scale .most in
-    let few : natAbs (c .args .scale .steps) ≤ 100000 = omega (arith, ints) in
-    let size = size-mul (c .args .a) (c .args .scale .steps) 17179607041 100000 (c .pre) few in
-    let e : SFits w64 (c .args .a *ℤ c .args .scale .steps) = size-fits (c .args .a *ℤ c .args .scale .steps) (omega arith) in
+    let a = c .args .a in let u = c .args .scale .steps in
+    let fa = c .fits .a in
+    let fu : SFits w64 u = search needs in
+    let size = size-mul a u 17179607041 100000 (c .pre) (small-scale u (c .args .scale .legal)) in
+    let fits : SFits w64 (a *ℤ u) = size-fits (a *ℤ u) (omega arith) in
     record { is = simp toZ-ofZ; size = simp toZ-ofZ (omega arith) }

@@ -11,13 +11,13 @@ pub mul-result : need.mul-result
 mul-result c =
     let u = c .args .scale .steps in
     let f : SFits w64 u = search needs in
-    let s = sizing.square u (c .args .scale .least) (c .args .scale .most) in
+    let s = sizing.square u (c .args .scale .legal) in
     simp toZ-ofZ (omega (arith, ints))
 
 pub returns : need.returns
 returns c =
     let u = c .args .scale .steps in
     let f : SFits w64 u = search needs in
-    let s = sizing.square u (c .args .scale .least) (c .args .scale .most) in
+    let s = sizing.square u (c .args .scale .legal) in
     let e : SFits w64 (u *ℤ u) = omega (arith, ints) in
     record { is = simp toZ-ofZ; positive = simp toZ-ofZ (s .0); few = simp toZ-ofZ (s .1) }
