@@ -1,4 +1,5 @@
--- What is worked out over the runs of a line is what the tip's own records say; one more finding in the list. Assumes nothing.
+-- What is worked out over the runs of a line is what the tip's own records say; one more finding in the list.
+-- Assumes the laws of cells.
 use borrow.Author.Count.{below-more}
 use native.Mathlib.Omega.{arith}
 use mathlib.Core.Path.{_≡_, refl, sym, ap, subst, _∙_}
@@ -15,6 +16,7 @@ use Rattle.cells.specs.declared.fault.CellFault.{CellFault}
 use Rattle.cells.specs.Cells.{blank, read-as, cell-at}
 use Rattle.cells.specs.Faults.{kept, in-row}
 use Rattle.cells.specs.Formulas.{blend-cell}
+use Rattle.cells.specs.Laws.{Laws}
 use Rattle.cells.specs.Worked.{blend-at}
 use Rattle.monday.specs.declared.line.Line.{Line}
 use Rattle.monday.specs.declared.line.Tip.{Tip}
@@ -43,10 +45,10 @@ own-records tips line row t h g =
     ∙ ap (λ (z : Record). at (tip .calibration) (tip .reading) z) (g .2 row t h)
 
 -- a finding with its tip's number, reading and dip; z stands past the end of the tips
-pub found-here : (tips : List Tip) (line : Line) (row : ℕ) (z t : Tip) (o : Outcome) (s : Standing) → row < length tips → IsLineOf tips line
+pub found-here : (laws : Laws) (tips : List Tip) (line : Line) (row : ℕ) (z t : Tip) (o : Outcome) (s : Standing) → row < length tips → IsLineOf tips line
     → told row o ≡ as-read (worked-at line row) → s ≡ standing-of o (getD tips row z .dip)
     → Found (getD tips row t) row (record { number = row + 1; reading = getD tips row z .reading; dip = getD tips row z .dip; outcome = o; standing = s })
-found-here tips line row z t o s h g e b =
+found-here laws tips line row z t o s h g e b =
     let same : getD tips row z ≡ getD tips row t = getD-default tips row z t h in
     let out : told row o ≡ as-read (in-row row (kept (pressure (getD tips row t)))) = e ∙ ap as-read (own-records tips line row t h g) in
     let P : Result Value CellFault → Type 0 = Sound (getD tips row t) in
@@ -55,7 +57,7 @@ found-here tips line row z t o s h g e b =
       reading = ap (λ (x : Tip). x .reading) same;
       dip = ap (λ (x : Tip). x .dip) same;
       outcome = out;
-      sound = subst P (sym out) (sound-kept (getD tips row t) row);
+      sound = subst P (sym out) (sound-kept laws (getD tips row t) row);
       standing = b ∙ ap (λ (x : Tip). standing-of o (x .dip)) same;
     }
 

@@ -1,6 +1,6 @@
 -- Steps as they are written in kPa.
 use mathlib.Core.Bool.{cond}
-use mathlib.Core.List.{List, [], _∷_, _++_}
+use mathlib.Core.List.{List, [], _++_}
 use Prim.Native.Nat.{ℕ, _/_, _%_}
 use lib.Chars.{codes}
 use lib.IntN.{ℤ, pos, natAbs}

@@ -20,6 +20,7 @@ use cells::cell::Interval;
 use cells::cell::Record;
 use cells::cell::Scale;
 use cells::formulas::blend;
+use cells::laws::laws_stand;
 use cells::reading::cell_at;
 use cells::reading::read;
 use rounding::fault::Bound;
@@ -134,6 +135,8 @@ pub fn why(reading: Record) -> Lack
 pub fn findings(heap: Global, tips: &[Tip; TIPS]) -> Result<Vec<Finding>, AllocError>
     ensures { λ r. ⌜ made r (λ v. (vec-len v ≡ 12) × AllFound (now (tips .entry)) 12 (vec-items v)) ⌝ }
 {
+    // what the pairs mean rests on the laws of cells; the call does nothing when the program runs
+    laws_stand();
     let line = Line::of(tips);
     let mut rounding = Rounding::new();
     let mut found = Vec::new(heap);

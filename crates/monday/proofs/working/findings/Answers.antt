@@ -21,5 +21,5 @@ loop-row-again c =
       omega (arith, pushed .len),
       found-more tips row (vec-len (c .loop-row .found)) (vec-items (c .loop-row .found)) (vec-items (c .push .last .self)) _ n (c .loop-row .inv .1)
           (pushed .places .0) (pushed .places .1)
-          (λ t. found-here tips (c .of-line .result) row _ t (c .work-out-outcome .result) (c .compare-standing .result) h (g .readings, g .calibrations, g .offsets) (c .work-out-outcome .ensures) (c .compare-standing .ensures)),
+          (λ t. found-here (c .laws-stand .ensures) tips (c .of-line .result) row _ t (c .work-out-outcome .result) (c .compare-standing .result) h (g .readings, g .calibrations, g .offsets) (c .work-out-outcome .ensures) (c .compare-standing .ensures)),
     )
