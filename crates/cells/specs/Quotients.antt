@@ -2,7 +2,7 @@
 use mathlib.Core.Bool.{Bool, false, cond}
 use mathlib.Core.List.{List, [], _∷_}
 use lib.IntN.{ℤ}
-use Rattle.arithmetic.specs.Values.{Value, empty, bounds, least-quotient, greatest-quotient, holds-zero}
+use Rattle.arithmetic.specs.Values.{Value, empty, bounds, quotients, holds-zero}
 use Rattle.rounding.specs.declared.direction.Direction.{Direction}
 use Rattle.rounding.specs.Outward.{rounded-in}
 
@@ -19,4 +19,4 @@ zero-in (bounds c d) = holds-zero c d
 abbrev pub divided : Value → Value → Value
 divided empty v = empty
 divided (bounds a b) empty = empty
-divided (bounds a b) (bounds c d) = cond (holds-zero c d) empty (bounds (least-quotient a b c d) (greatest-quotient a b c d))
+divided (bounds a b) (bounds c d) = cond (holds-zero c d) empty (quotients (bounds a b) (bounds c d))

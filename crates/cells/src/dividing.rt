@@ -1,7 +1,7 @@
 // A sum divided by a cell: the least of the four quotients rounded down, the greatest up.
 ghost use mathlib.Core.Path.{_≡_};
 ghost use mathlib.Core.Bool.{false};
-ghost use Rattle.arithmetic.specs.Values.{holds-zero, bounds, least-quotient, greatest-quotient};
+ghost use Rattle.arithmetic.specs.Values.{holds-zero, bounds, quotients, least-quotient, greatest-quotient};
 ghost use Rattle.rounding.specs.declared.direction.Direction.the-variants.{Down, Up};
 ghost use Rattle.rounding.specs.declared.fault.Bound.the-variants.{Lower, Upper};
 ghost use Rattle.rounding.specs.Outward.{fitted};
@@ -58,10 +58,10 @@ fn upper_side(direction: Direction, sums: Sums, by: Interval) -> Result<i32, Rou
     fitting(greatest(divide(direction, sums, by)), Bound::Upper)
 }
 
-// The lower side is looked at first.
+// Both sides, the lower one looked at first.
 fn divide_out(rounding: &mut Rounding, sums: Sums, by: Interval) -> Result<Record, RoundingFault>
     requires { ⌜ holds-zero (by .lower) (by .upper) ≡ false ⌝ }
-    ensures { λ r. ⌜ r ≡ kept (bounds (least-quotient (sums .least .value) (sums .greatest .value) (by .lower) (by .upper)) (greatest-quotient (sums .least .value) (sums .greatest .value) (by .lower) (by .upper))) ⌝ }
+    ensures { λ r. ⌜ r ≡ kept (quotients (bounds (sums .least .value) (sums .greatest .value)) (bounds (by .lower) (by .upper))) ⌝ }
 {
     let lower = lower_side(rounding.direction, sums, by)?;
     let up = Upward::new(&mut rounding.direction);

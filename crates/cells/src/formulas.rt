@@ -2,8 +2,9 @@
 // Every operand counts: an empty one empties the cell, even under a factor of zero. A place past a run's end is empty.
 ghost use mathlib.Core.Path.{_≡_};
 ghost use denote.Ref.{now};
-ghost use Rattle.arithmetic.specs.Values.{times, plus, rescaled, total};
+ghost use Rattle.arithmetic.specs.Values.{total};
 ghost use Rattle.cells.specs.Cells.{cell-value, loose-value, sum-value, cell-at};
+ghost use Rattle.cells.specs.Formulas.{sum-of-products, weighted-sum};
 ghost use Rattle.cells.specs.Worked.{dot-at, sum-at, blend-at};
 use crate::cell::Cell;
 use crate::cell::Factors;
@@ -67,7 +68,7 @@ fn dot_sum(
     ys: &[Record],
     terms: Terms,
 ) -> Sum
-    ensures { λ r. ⌜ sum-value r ≡ plus (rescaled (scale .steps) (times (cell-value (factors .beta)) (cell-value old))) (times (cell-value (factors .alpha)) (total (λ j. times (cell-at (now (xs .entry)) j) (cell-at (now (ys .entry)) j)) 0 (terms .count))) ⌝ }
+    ensures { λ r. ⌜ sum-value r ≡ weighted-sum (scale .steps) (cell-value (factors .alpha)) (cell-value (factors .beta)) (cell-value old) (sum-of-products (cell-at (now (xs .entry))) (cell-at (now (ys .entry))) 0 (terms .count)) ⌝ }
 {
     let products = sum_of_products(
         &Runs { xs, ys },

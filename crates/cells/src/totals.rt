@@ -1,8 +1,9 @@
 // Sums of products over any operands, and the sums that the formulas divide.
 ghost use mathlib.Core.Path.{_≡_};
 ghost use Prim.Native.Nat.{ℕ, _-_};
-ghost use Rattle.arithmetic.specs.Values.{Value, times, plus, opposite, rescaled, total};
+ghost use Rattle.arithmetic.specs.Values.{Value};
 ghost use Rattle.cells.specs.Cells.{cell-value, total-value, sum-value};
+ghost use Rattle.cells.specs.Formulas.{sum-of-products, weighted-sum, blended-sum, remainder-sum};
 use crate::cell::Cell;
 use crate::cell::Factors;
 use crate::cell::Loose;
@@ -28,7 +29,7 @@ pub trait Operands {
 
 // Σ x_j·y_j over the places, unrounded. At most 1,024 products are added, so no word overflows.
 pub fn sum_of_products<O: Operands>(operands: &O, places: Places) -> Total
-    ensures { λ r. ⌜ total-value r ≡ total (λ j. times (O·Operands .lefts (now (operands .entry)) j) (O·Operands .rights (now (operands .entry)) j)) (places .from) (places .to - places .from) ⌝ }
+    ensures { λ r. ⌜ total-value r ≡ sum-of-products (O·Operands .lefts (now (operands .entry))) (O·Operands .rights (now (operands .entry))) (places .from) (places .to - places .from) ⌝ }
 {
     let mut sofar = Loose::Bounds(0, 0);
     for j in places.from..places.to {
@@ -40,7 +41,7 @@ pub fn sum_of_products<O: Operands>(operands: &O, places: Places) -> Total
 
 // beta·r + alpha·Σ, at the scale of a product of three cells.
 pub fn weighted(scale: Scale, factors: Factors, old: Cell, total: Total) -> Sum
-    ensures { λ r. ⌜ sum-value r ≡ plus (rescaled (scale .steps) (times (cell-value (factors .beta)) (cell-value old))) (times (cell-value (factors .alpha)) (total-value total)) ⌝ }
+    ensures { λ r. ⌜ sum-value r ≡ weighted-sum (scale .steps) (cell-value (factors .alpha)) (cell-value (factors .beta)) (cell-value old) (total-value total) ⌝ }
 {
     let kept = product(factors.beta, old).scaled(scale);
     let worked = total_product(factors.alpha, total);
@@ -49,7 +50,7 @@ pub fn weighted(scale: Scale, factors: Factors, old: Cell, total: Total) -> Sum
 
 // alpha·x + beta·r, at the scale of a product of two cells.
 pub(crate) fn blended(factors: Factors, x: Cell, old: Cell) -> Sum
-    ensures { λ r. ⌜ sum-value r ≡ plus (times (cell-value (factors .alpha)) (cell-value x)) (times (cell-value (factors .beta)) (cell-value old)) ⌝ }
+    ensures { λ r. ⌜ sum-value r ≡ blended-sum (cell-value (factors .alpha)) (cell-value (factors .beta)) (cell-value x) (cell-value old) ⌝ }
 {
     let worked = product(factors.alpha, x);
     let kept = product(factors.beta, old);
@@ -58,7 +59,7 @@ pub(crate) fn blended(factors: Factors, x: Cell, old: Cell) -> Sum
 
 // alpha·x − Σ, at the scale of a product of two cells.
 pub fn remainder(alpha: Cell, x: Cell, total: Total) -> Sum
-    ensures { λ r. ⌜ sum-value r ≡ plus (times (cell-value alpha) (cell-value x)) (opposite (total-value total)) ⌝ }
+    ensures { λ r. ⌜ sum-value r ≡ remainder-sum (cell-value alpha) (cell-value x) (total-value total) ⌝ }
 {
     let right = product(alpha, x);
     let solved = Loose::of_total(total).negated();
