@@ -3,8 +3,8 @@ use Rattle.std.proofs.lemmas.Int.{to_z-of_z}
 use Rattle.arithmetic.proofs.Sizes.{size_mul, size_fits}
 use Rattle.cells.proofs.four.times_wide.Goals as goal
 
-pub overflow-mul-result : goal.overflow-mul-result
-overflow-mul-result c =
+pub overflow_mul-result : goal.overflow_mul-result
+overflow_mul-result c =
     let a = c.ranges.x in
     let b = c.ranges.y in
     let d : SFits w64 c.args.x = record { sfits = omega (arith, a.sfits) } in

@@ -4,8 +4,8 @@ use Rattle.arithmetic.proofs.Sizes.{size_mul, size_fits}
 use Rattle.cells.proofs.Sizing.{small_scale}
 use Rattle.cells.proofs.sums.finer.Goals as goal
 
-pub overflow-mul-result : goal.overflow-mul-result
-overflow-mul-result c =
+pub overflow_mul-result : goal.overflow_mul-result
+overflow_mul-result c =
     let a = c.args.a in let u = c.args.scale.steps in
     let fa = c.ranges.a in
     let fu : SFits w64 u = search rules in

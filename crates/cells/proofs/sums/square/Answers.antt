@@ -3,8 +3,8 @@ use Rattle.std.proofs.lemmas.Int.{to_z-of_z, ints}
 use Rattle.cells.proofs.Sizing as sizing
 use Rattle.cells.proofs.sums.square.Goals as goal
 
-pub overflow-mul-result : goal.overflow-mul-result
-overflow-mul-result c =
+pub overflow_mul-result : goal.overflow_mul-result
+overflow_mul-result c =
     let u = c.args.scale.steps in
     let f : SFits w64 u = search rules in
     let s = sizing.square u c.args.scale.legal in

@@ -11,8 +11,8 @@ returns c =
     let fl : SFits w64 c.least.result = search rules in
     let fg : SFits w64 c.greatest.result = search rules in
     let x = c.in-Bounds.x in let y = c.in-Bounds-total.y in
-    let l = c.least.ensures ∙ ap least c.multiply-total-four.ensures in
-    let g = c.greatest.ensures ∙ ap greatest c.multiply-total-four.ensures in
+    let l = c.least.ensures ∙ ap least c.multiply_total-four.ensures in
+    let g = c.greatest.ensures ∙ ap greatest c.multiply_total-four.ensures in
     record {
       is = simp to_z-of_z (product_is x.lower x.upper y.least y.greatest _ _ l g _ _ (ap cell_value c.in-Bounds.is) (ap total_value c.in-Bounds-total.is));
       size = simp to_z-of_z (product_small x.lower x.upper y.least y.greatest c.least.result c.greatest.result l g 131071 (2 ^ 44) (small_interval x) (small_totals y));

@@ -6,9 +6,9 @@ use Rattle.cells.proofs.totals.add_product.Goals as goal
 
 pub returns : goal.returns
 returns c =
-    let sofar = loose_value c.of-total.result in let term = loose_value c.product.result in
+    let sofar = loose_value c.of_total.result in let term = loose_value c.product.result in
     let all : total_value c.total.result ≡ plus sofar term = c.total.ensures ∙ c.add.ensures in
-    let old : sofar ≡ total_value c.args.sofar = c.of-total.ensures.is in
+    let old : sofar ≡ total_value c.args.sofar = c.of_total.ensures.is in
     record {
       is = all ∙ ap (λ (v : Value). plus v term) old ∙ ap (plus (total_value c.args.sofar)) c.product.ensures.is;
       size = λ n h. let P : Value → Type 0 = Small (n + 17179607041) in let Q : Value → Type 0 = Small n in

@@ -9,7 +9,7 @@ pub loop-row-preserved : goal.loop-row-preserved
 loop-row-preserved g c =
     let l = c.loop-row in let m = g.L.Layout.meaning c.args.layout.now in
     told_more (row_sum m (cell_at c.args.xs.now)) l.sums l.row c.told.result (omega (arith, l.auto.sums, c.loop-row-test.true))
-    (c.told.ensures ∙ c.row-sum.ensures ∙ ap (λ (xs : List Record). row_sum m (cell_at xs) l.row) c.of-vector.ensures) l.invariant
+    (c.told.ensures ∙ c.row_sum.ensures ∙ ap (λ (xs : List Record). row_sum m (cell_at xs) l.row) c.of-vector.ensures) l.invariant
 
 pub returns : goal.returns
 returns g c =

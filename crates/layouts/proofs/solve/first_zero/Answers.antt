@@ -14,16 +14,16 @@ as_meant m side half n e f = ap (λ (s : Side). first_zero m (rows_in_order s n)
 tested : (m : Matrix) (i j : ℕ) (b t : Bool) → i ≡ j → b ≡ zero_in (m.entry i i) → b ≡ t → zero_in (m.entry j j) ≡ t
 tested m i j b t e f h = ap (λ (k : ℕ). zero_in (m.entry k k)) (sym e) ∙ sym f ∙ h
 
-pub returns-then-holds-zero : goal.returns-then-holds-zero
-returns-then-holds-zero g c =
+pub returns-then-holds_zero : goal.returns-then-holds_zero
+returns-then-holds_zero g c =
     let m = g.T.Layout.meaning c.args.layout.now in let side = c.side-side.result in let n = c.rows-n.result in let s = c.loop-step.step in
-    let here = tested m c.row-at-row.result (row_at side n s) c.holds-zero.result true c.row-at-row.ensures (c.holds-zero.ensures ∙ ap zero_in c.entry.ensures) c.if-holds-zero.true in
-    ap Some c.row-at-row.ensures ∙ sym (zero_here m side n s (omega arith) here) ∙ c.loop-step.invariant ∙ as_meant m side _ n c.side-side.ensures.is c.rows-n.ensures
+    let here = tested m c.row_at-row.result (row_at side n s) c.holds_zero.result true c.row_at-row.ensures (c.holds_zero.ensures ∙ ap zero_in c.entry.ensures) c.if-holds_zero.true in
+    ap Some c.row_at-row.ensures ∙ sym (zero_here m side n s (omega arith) here) ∙ c.loop-step.invariant ∙ as_meant m side _ n c.side-side.ensures.is c.rows-n.ensures
 
 pub loop-step-preserved : goal.loop-step-preserved
 loop-step-preserved g c =
     let m = g.T.Layout.meaning c.args.layout.now in let side = c.side-side.result in let n = c.rows-n.result in let s = c.loop-step.step in
-    let here = tested m c.row-at-row.result (row_at side n s) c.holds-zero.result false c.row-at-row.ensures (c.holds-zero.ensures ∙ ap zero_in c.entry.ensures) c.if-holds-zero.false in
+    let here = tested m c.row_at-row.result (row_at side n s) c.holds_zero.result false c.row_at-row.ensures (c.holds_zero.ensures ∙ ap zero_in c.entry.ensures) c.if-holds_zero.false in
     sym (zero_later m side n s (omega arith) here) ∙ c.loop-step.invariant
 
 pub returns : goal.returns

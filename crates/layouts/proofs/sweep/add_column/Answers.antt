@@ -16,8 +16,8 @@ use Rattle.layouts.proofs.sweep.add_column.Goals as goal
 old : (sums was : List Total) (row : ℕ) (x : Total) → row < length sums → x ≡ get_or sums row x → ((k : ℕ) → row ≤ k → get_or sums k Empty ≡ get_or was k Empty) → x ≡ get_or was row Empty
 old sums was row x lt e same = get_or_read sums row x lt e Empty ∙ same row (omega arith)
 
-pub add-product-requires : goal.add-product-requires
-add-product-requires g c =
+pub add_product-requires : goal.add_product-requires
+add_product-requires g c =
     let l = c.loop-row in let was = c.args.sums.now in let x = c.index-sums-row.result in
     let in-was : l.row < length was = omega (arith, c.loop-row-test.true, c.min-row-end.ensures) in
     let P : Total → Type 0 = λ t. Small 17574738002943 (total_value t) in
@@ -26,13 +26,13 @@ add-product-requires g c =
 pub loop-row-preserved : goal.loop-row-preserved
 loop-row-preserved g c =
     let m = g.L.Layout.meaning c.args.layout.now in let l = c.loop-row in let was = c.args.sums.now in let x = c.index-sums-row.result in
-    let j = c.args.column in let v = cell_value (Bounds c.in-Bounds.factor) in let new = c.add-product.result in
+    let j = c.args.column in let v = cell_value (Bounds c.in-Bounds.factor) in let new = c.add_product.result in
     let here : l.row < length l.sums = omega (arith, c.loop-row-test.true, c.min-row-end.ensures, l.auto.sums) in
     let before : x ≡ get_or was l.row Empty = old l.sums was l.row x here c.index-sums-row.is l.invariant.2 in
     let is : total_value new ≡ plus (total_value (get_or was l.row Empty)) (times (m.entry l.row j) v) =
-    c.add-product.ensures.is ∙ ap (λ (t : Total). plus (total_value t) (times (cell_value c.entry.result) v)) before ∙ ap (λ (e : Value). plus (total_value (get_or was l.row Empty)) (times e v)) c.entry.ensures in
+    c.add_product.ensures.is ∙ ap (λ (t : Total). plus (total_value t) (times (cell_value c.entry.result) v)) before ∙ ap (λ (e : Value). plus (total_value (get_or was l.row Empty)) (times e v)) c.entry.ensures in
     let size : (n : ℕ) → Small n (total_value (get_or was l.row Empty)) → Small (n + 17179607041) (total_value new) =
-    λ n h. let P : Total → Type 0 = λ t. Small n (total_value t) in c.add-product.ensures.size n (subst P (sym before) h) in
+    λ n h. let P : Total → Type 0 = λ t. Small n (total_value t) in c.add_product.ensures.size n (subst P (sym before) h) in
     let Is : ℕ → Total → Type 0 = λ k t. total_value t ≡ plus (total_value (get_or was k Empty)) (times (m.entry k j) v) in
     let Sized : ℕ → Total → Type 0 = λ k t. (n : ℕ) → Small n (total_value (get_or was k Empty)) → Small (n + 17179607041) (total_value t) in (
       λ k h. one_more Is l.sums 0 l.row new Empty here is (λ k a. l.invariant.0 k) k (omega arith) h,

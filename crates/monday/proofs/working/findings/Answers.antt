@@ -15,5 +15,5 @@ loop-row-preserved c =
       omega (arith, pushed.len),
       found_more tips row (vec_len c.loop-row.found) (vec_items c.loop-row.found) (vec_items c.push.new.self) _ n c.loop-row.invariant.1
           pushed.by_index.0 pushed.by_index.1
-          (λ t. found_here c.laws-stand.ensures tips c.of-line.result row _ t c.work-out-outcome.result c.compare-standing.result h (g.readings, g.calibrations, g.offsets) c.work-out-outcome.ensures c.compare-standing.ensures),
+          (λ t. found_here c.laws_stand.ensures tips c.of-line.result row _ t c.work_out-outcome.result c.compare-standing.result h (g.readings, g.calibrations, g.offsets) c.work_out-outcome.ensures c.compare-standing.ensures),
     )

@@ -3,7 +3,7 @@ use Rattle.std.proofs.lemmas.List.{take_all}
 use Rattle.std.proofs.lemmas.List.Sums.{count_by_more_yes, count_by_more_no}
 use Rattle.station.specs.Groups.{member}
 use Rattle.station.proofs.groups.count.Goals as goal
-use Rattle.station.proofs.groups.count.Goals.{then-is-in, else-is-in}
+use Rattle.station.proofs.groups.count.Goals.{then-is_in, else-is_in}
 
 pub loop-finding-preserved : goal.loop-finding-preserved
 loop-finding-preserved c =
@@ -11,10 +11,10 @@ loop-finding-preserved c =
     let all = c.args.findings.now in
     let i = c.loop-finding.finding-index in
     let item = c.finding-item.result in
-    let found : p (get_or all i item) ≡ c.is-in.result = ap p (sym c.finding-item.is) ∙ sym c.is-in.ensures in
-    elim c.if-is-in.branch [
-      | then-is-in w ↦ (let e = count_by_more_yes p all i item c.loop-finding-test.true (found ∙ w.if-is-in.true) in (omega (arith, w.members-is), omega (arith, w.members-is)))
-      | else-is-in w ↦ (let e = count_by_more_no p all i item c.loop-finding-test.true (found ∙ w.if-is-in.false) in (omega (arith, w.members-is), omega (arith, w.members-is)))
+    let found : p (get_or all i item) ≡ c.is_in.result = ap p (sym c.finding-item.is) ∙ sym c.is_in.ensures in
+    elim c.if-is_in.branch [
+      | then-is_in w ↦ (let e = count_by_more_yes p all i item c.loop-finding-test.true (found ∙ w.if-is_in.true) in (omega (arith, w.members-is), omega (arith, w.members-is)))
+      | else-is_in w ↦ (let e = count_by_more_no p all i item c.loop-finding-test.true (found ∙ w.if-is_in.false) in (omega (arith, w.members-is), omega (arith, w.members-is)))
     ]
 
 pub returns : goal.returns

@@ -17,7 +17,7 @@ loop-row-preserved c =
       omega (arith, pushed.len),
       found_more line row (vec_len c.loop-row.found) (vec_items c.loop-row.found) (vec_items c.push.new.self) _ n c.loop-row.invariant.1
           pushed.by_index.0 pushed.by_index.1
-          (found_here (record { of_cells = c.laws-stand.ensures; of_layouts = c.laws-stand-2.ensures }) line row past c.work-out-outcome.result c.compare-standing.result h nine c.work-out-outcome.ensures.value c.work-out-outcome.ensures.lack c.compare-standing.ensures),
+          (found_here (record { of_cells = c.laws_stand.ensures; of_layouts = c.laws_stand-2.ensures }) line row past c.work_out-outcome.result c.compare-standing.result h nine c.work_out-outcome.ensures.value c.work_out-outcome.ensures.lack c.compare-standing.ensures),
     )
 
 pub returns-in-err-push : goal.returns-in-err-push
