@@ -27,4 +27,4 @@ pub loop-k-preserved : goal.loop-k-preserved
 loop-k-preserved c =
     let mark : ℕ → Mark = mark_at c.args.pair.lower c.args.pair.upper c.args.dip in
     push_more mark c.loop-k.k c.sign_of.result (string_bytes c.loop-k.bar) (string_bytes c.push.new.self) c.loop-k.invariant (c.sign_of.ensures ∙ ap sign c.mark_in.ensures)
-    c.in-ok-push.ensures.bytes
+    c.in_ok-push.ensures.bytes

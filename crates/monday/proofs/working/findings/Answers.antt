@@ -11,7 +11,7 @@ loop-row-preserved c =
     let l : length tips ≡ 12 = search rules in
     let h : row < length tips = omega (arith, c.loop-row-test.true) in
     let g = c.of-line.ensures in
-    let pushed = c.in-ok-push.ensures in (
+    let pushed = c.in_ok-push.ensures in (
       omega (arith, pushed.len),
       found_more tips row (vec_len c.loop-row.found) (vec_items c.loop-row.found) (vec_items c.push.new.self) _ n c.loop-row.invariant.1
           pushed.by_index.0 pushed.by_index.1

@@ -13,12 +13,12 @@ loop-row-preserved c =
     let h : row / 3 < length line = omega (arith, c.loop-row-test.true) in
     let past : Junction = record { readings = []; offsets = []; calibration = []; dips = [] } in
     let nine : length (get_or line (row / 3) past).calibration ≡ 9 = search rules in
-    let pushed = c.in-ok-push.ensures in (
+    let pushed = c.in_ok-push.ensures in (
       omega (arith, pushed.len),
       found_more line row (vec_len c.loop-row.found) (vec_items c.loop-row.found) (vec_items c.push.new.self) _ n c.loop-row.invariant.1
           pushed.by_index.0 pushed.by_index.1
           (found_here (record { of_cells = c.laws_stand.ensures; of_layouts = c.laws_stand-2.ensures }) line row past c.work_out-outcome.result c.compare-standing.result h nine c.work_out-outcome.ensures.value c.work_out-outcome.ensures.lack c.compare-standing.ensures),
     )
 
-pub returns-in-err-push : goal.returns-in-err-push
-returns-in-err-push c = IfOk-from_err c.from-residual.result _ c.from-residual.ensures.0
+pub returns-in_err-push : goal.returns-in_err-push
+returns-in_err-push c = IfOk-from_err c.from-residual.result _ c.from-residual.ensures.0

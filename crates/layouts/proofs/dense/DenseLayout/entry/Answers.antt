@@ -15,8 +15,8 @@ inside c =
     subst P (sym c.place.ensures)
     (dense_inside d.run.now d.rows d.columns d.stride c.args.row c.args.column c.if-not-is_fit.ensures c.if-row-self.true c.if-column-self.true)
 
-pub offset-bounds-self-place : goal.offset-bounds-self-place
-offset-bounds-self-place c = let p = inside c in search rules
+pub offset_bounds-self-place : goal.offset_bounds-self-place
+offset_bounds-self-place c = let p = inside c in search rules
 
 pub bounds-self-place : goal.bounds-self-place
 bounds-self-place c = inside c

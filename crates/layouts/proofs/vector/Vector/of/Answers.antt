@@ -6,7 +6,10 @@ use Rattle.layouts.specs.Filled.{is_filled}
 use Rattle.layouts.proofs.vector.Vector.of.Goals as goal
 
 -- past the end of the run the cell is empty
-pub invariant-of-result-2 : goal.invariant-of-result-2
-invariant-of-result-2 c =
+pub invariant_of-result-2 : goal.invariant_of-result-2
+invariant_of-result-2 c =
     let run = c.args.run.now in
-    (λ k a b. c.loop-place.invariant k a (omega (arith, b)), (ap (λ (r : Record). is_filled (read_as r)) (get_or_past run (length run) blank (omega arith)), tt))
+    record {
+      before = λ k a b. c.loop-place.invariant k a (omega (arith, b));
+      next = ap (λ (r : Record). is_filled (read_as r)) (get_or_past run (length run) blank (omega arith));
+    }
