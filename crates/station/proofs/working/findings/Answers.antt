@@ -21,4 +21,4 @@ loop-row-preserved c =
     )
 
 pub returns-in_err-push : goal.returns-in_err-push
-returns-in_err-push c = IfOk-from_err c.from-residual.result _ c.from-residual.ensures.0
+returns-in_err-push c = IfOk-from_err c.from_residual.result _ c.from_residual.ensures.0
