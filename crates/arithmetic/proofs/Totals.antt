@@ -1,6 +1,6 @@
 -- Sums with terms that are zero or empty: a zero term changes nothing, an empty one empties the sum. Assumes nothing.
-use Rattle.std.proofs.Common.{◌≡◌, ℕ, zero, suc, ◌+◌, ◌-◌, ◌<◌, ◌≤◌, pos, sym, refl, ap, ◌∙◌, add-zero, add_assoc, add-suc, zero-add, arith}
-use lib.IntN.{zero-*ℤ, +ℤ_idr, +ℤ_idl}
+use Rattle.std.proofs.Common.{◌≡◌, ℕ, zero, suc, ◌+◌, ◌-◌, ◌<◌, ◌≤◌, refl, ap, ◌∙◌, add-zero, add-suc, arith}
+use lib.IntN.{zero-*ℤ, +ℤ_idr}
 use Rattle.arithmetic.specs.Values.{Value, empty, bounds, zeros, times, plus, total}
 
 pub times_zeros : (v : Value) → (v ≡ empty → ⊥) → times zeros v ≡ zeros

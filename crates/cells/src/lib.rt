@@ -1,4 +1,6 @@
 // Cells: records of supplied memory read as intervals, unrounded sums of them, the cell formulas and the joining rules.
+#![tactic(auto)]
+
 pub mod cell;
 pub mod dividing;
 pub mod fault;

@@ -1,5 +1,7 @@
 // A layout of one's own, as an example: a diagonal matrix, of which only the diagonal is stored.
 // docs/ADDING-A-LAYOUT.md goes through it line by line.
+#![tactic(auto)]
+
 ghost use Rattle.std.specs.Prelude.{◌≡◌, ◌+◌, ltb, if◌then◌else◌};
 ghost use Rattle.layouts.specs.declared.side.Side.TheVariants.{Lower};
 ghost use Rattle.diagonal.specs.Diagonal.{diagonal, diagonal_sound};

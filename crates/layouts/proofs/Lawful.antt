@@ -1,5 +1,5 @@
 -- The laws of the row formulas, from those of cells, which are assumed here and which `cells::laws::laws_stand` promises.
-use Rattle.std.proofs.Common.{◌≡◌, ℕ, ◌<◌, Bool, true, false, ℤ, pos, ◌*ℤ◌, ◌<ℤ◌, sym, refl, subst, inl, inr, arith}
+use Rattle.std.proofs.Common.{◌≡◌, ℕ, ◌<◌, false, ℤ, pos, ◌*ℤ◌, ◌<ℤ◌, sym, refl, subst, inl, inr, arith}
 use lib.Signed.{le_z}
 use borrow.Author.Differences.{ints}
 use Rattle.std.proofs.lemmas.Bool.{and_left, and_right}

@@ -1,6 +1,6 @@
 -- The span of a row of a symmetric matrix, from the spans of the row and of the column of the same number below. Assumes
 -- nothing.
-use Rattle.std.proofs.Common.{◌≡◌, ℕ, ◌+◌, ◌<◌, ◌≤◌, min, max, cond, ◌&&◌, ltb, sym, ap, ◌∙◌, arith}
+use Rattle.std.proofs.Common.{◌≡◌, ℕ, ◌+◌, ◌<◌, ◌≤◌, min, max, cond, ◌&&◌, ltb, ap, ◌∙◌, arith}
 use Rattle.std.proofs.lemmas.Bool.{cond-true, and_from, lt-ltb}
 use Rattle.arithmetic.specs.Values.{Value, empty, zeros}
 use Rattle.layouts.specs.declared.side.Side.TheVariants.{Lower, Upper}

@@ -1,6 +1,6 @@
 -- Which terms of a row's sum can be left out: those under a structural zero where every operand is filled; and one operand
 -- that is not filled empties the sum. Assumes nothing.
-use Rattle.std.proofs.Common.{◌≡◌, ℕ, ◌+◌, ◌-◌, ◌<◌, ◌≤◌, min, max, true, false, List, sym, refl, ap, ◌∙◌, arith}
+use Rattle.std.proofs.Common.{◌≡◌, ℕ, ◌+◌, ◌-◌, ◌≤◌, min, max, true, false, List, sym, refl, ap, ◌∙◌, arith}
 use Rattle.std.proofs.lemmas.Bool.{false≢true, true≢false}
 use Rattle.arithmetic.specs.Values.{Value, empty, bounds, zeros, times, plus}
 use Rattle.arithmetic.proofs.Totals.{times_zeros, times_empty, plus_zeros, total_inside, total_empty}

@@ -1,5 +1,5 @@
 -- The refusal of a layout's check: its number and the values that it carries.
-use Rattle.std.specs.Prelude.{◌≡◌, ℕ, Bool, true, false, cond, Ok, Err, Result}
+use Rattle.std.specs.Prelude.{◌≡◌, ℕ, Bool, true, false, Ok, Err, Result}
 use Rattle.layouts.specs.declared.refusal.LayoutRefusal.{LayoutRefusal}
 use Rattle.layouts.specs.declared.refusal.LayoutRefusal.TheVariants.{UnfitFigures}
 

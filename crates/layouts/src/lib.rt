@@ -1,4 +1,6 @@
 // Layouts: the storage schemes of matrices, each by the matrix that it means, and the row formulas over any of them.
+#![tactic(auto)]
+
 pub mod band;
 pub mod dense;
 mod figures;

@@ -1,5 +1,7 @@
 // The Monday account of the upstream line: for each tip the bounds of its pore pressure, and whether the month's dip
 // lies between them.
+#![tactic(auto)]
+
 use std::io;
 
 mod account;

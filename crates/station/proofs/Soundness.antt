@@ -1,6 +1,6 @@
 -- What is kept of a pressure is tight for the pressures that the tip can have. Assumes the laws of cells and of layouts,
 -- which `laws_stand` of either promises.
-use Rattle.std.proofs.Common.{◌≡◌, ℕ, length, get_or, pos, ◌<ℤ◌, Ok, Err, Result, sym, refl, ap, ◌∙◌, subst, arith}
+use Rattle.std.proofs.Common.{◌≡◌, ℕ, length, get_or, pos, Ok, Err, Result, sym, refl, ap, ◌∙◌, subst, arith}
 use borrow.Author.Differences.{ints}
 use Rattle.arithmetic.specs.Values.{Value, empty, bounds, Ordered, Tightly}
 use Rattle.arithmetic.proofs.Values.{tightly_ordered}

@@ -1,5 +1,7 @@
 // Whole matrices, read from each storage scheme that BLAS has and under each layer. The stored output is what the reference
 // BLAS reads from the same runs, written by `tools/storages-by-blas`.
+#![tactic(auto)]
+
 use cells::cell::{Cell, EMPTY, Record};
 use layouts::band::Band;
 use layouts::dense::Dense;

@@ -1,7 +1,7 @@
-use Rattle.std.proofs.Common.{◌≡◌, ℕ, ◌+◌, sym, ap, ◌∙◌, subst}
-use Rattle.arithmetic.specs.Values.{Value, plus, times, Small}
+use Rattle.std.proofs.Common.{◌≡◌, ◌+◌, sym, ap, ◌∙◌, subst}
+use Rattle.arithmetic.specs.Values.{Value, plus, Small}
 use Rattle.arithmetic.proofs.Sizes.{small_plus}
-use Rattle.cells.specs.Cells.{cell_value, loose_value, total_value}
+use Rattle.cells.specs.Cells.{loose_value, total_value}
 use Rattle.cells.proofs.totals.add_product.Goals as goal
 
 pub returns : goal.returns

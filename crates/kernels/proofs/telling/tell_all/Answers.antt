@@ -1,6 +1,6 @@
-use Rattle.std.proofs.Common.{◌≡◌, ℕ, ◌<◌, map, length, get_or, sym, ap, ◌∙◌, arith}
+use Rattle.std.proofs.Common.{◌≡◌, ◌<◌, map, length, get_or, sym, ap, ◌∙◌, arith}
 use Rattle.std.proofs.lemmas.List.{get_or-map, get_or_read, length-map, ext_get_or}
-use Rattle.arithmetic.specs.Values.{Value, empty}
+use Rattle.arithmetic.specs.Values.{empty}
 use Rattle.cells.specs.declared.cell.Total.TheVariants.{Empty}
 use Rattle.cells.specs.Cells.{total_value}
 use Rattle.kernels.specs.Sums.{sum_told}

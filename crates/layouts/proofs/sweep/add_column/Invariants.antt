@@ -1,4 +1,4 @@
-use Rattle.std.proofs.Common.{◌≡◌, ℕ, ◌+◌, ◌<◌, ◌≤◌, length, get_or}
+use Rattle.std.proofs.Common.{◌≡◌, ℕ, ◌+◌, ◌<◌, ◌≤◌, get_or}
 use Rattle.arithmetic.specs.Values.{plus, times, Small}
 use Rattle.cells.specs.declared.cell.Cell.TheVariants.{Bounds}
 use Rattle.cells.specs.declared.cell.Total.TheVariants.{Empty}

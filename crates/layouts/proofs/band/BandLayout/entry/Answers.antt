@@ -1,4 +1,4 @@
-use Rattle.std.proofs.Common.{◌≡◌, ℕ, ◌<◌, ◌≤◌, length, sym, ap, ◌∙◌, subst, arith, rules}
+use Rattle.std.proofs.Common.{ℕ, ◌<◌, length, sym, ◌∙◌, subst, arith, rules}
 use Rattle.cells.specs.Cells.{cell_value}
 use Rattle.layouts.specs.Stored.{band_fit, band_place, band_entry}
 use Rattle.layouts.proofs.Places.{band_small, band_inside, stored_read, band_read, shaped_entry}

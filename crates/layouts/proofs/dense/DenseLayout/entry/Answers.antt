@@ -1,4 +1,4 @@
-use Rattle.std.proofs.Common.{◌≡◌, ℕ, ◌<◌, length, sym, ap, ◌∙◌, subst, rules}
+use Rattle.std.proofs.Common.{ℕ, ◌<◌, length, sym, ◌∙◌, subst, rules}
 use Rattle.cells.specs.Cells.{cell_value, cell_at}
 use Rattle.layouts.specs.Stored.{dense_fit, dense_place}
 use Rattle.layouts.proofs.Places.{dense_inside, stored_read, shaped_entry}

@@ -1,4 +1,4 @@
-use Rattle.std.proofs.Common.{◌≡◌, ℕ, ◌+◌, ◌*◌, ◌/◌, ◌<◌, true, length, sym, ap, ◌∙◌, subst, arith, rules}
+use Rattle.std.proofs.Common.{◌≡◌, ◌+◌, ◌*◌, ◌/◌, ◌<◌, true, length, sym, ◌∙◌, arith}
 use Rattle.cells.specs.Cells.{cell_value}
 use Rattle.layouts.specs.Sides.{on_side}
 use Rattle.layouts.specs.Stored.{packed_fit, packed_place, packed_entry}

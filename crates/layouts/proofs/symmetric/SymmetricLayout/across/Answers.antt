@@ -1,4 +1,4 @@
-use Rattle.std.proofs.Common.{◌≡◌, ℕ, ◌+◌, ◌<◌, min, max, sym, ap, ◌∙◌, subst, arith}
+use Rattle.std.proofs.Common.{◌≡◌, ℕ, ◌+◌, min, max, sym, ap, ◌∙◌, subst, arith}
 use Rattle.layouts.specs.declared.side.Side.{Side}
 use Rattle.layouts.specs.Layers.{smaller, symmetric}
 use Rattle.layouts.specs.Matrix.{Matrix}
