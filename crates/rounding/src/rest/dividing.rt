@@ -15,27 +15,24 @@ use crate::rest::guard::Upward;
 pub const LIMIT: i32 = 131_071;
 
 // The greatest whole number that is at most the quotient. `div_euclid` rounds down by a positive divisor.
-fn floor_of(value: i64, divisor: i64) -> i64
-    requires nonzero { divisor ≢ pos 0 }
-    requires value { unsigned_abs value < 2 ^ 62 }
-    requires divisor { unsigned_abs divisor < 2 ^ 62 }
-    ensures { result ≡ floor value divisor }
+fn floor_of(value: Unrounded, by: Divisor) -> i64
+    ensures { result ≡ floor value.value by.value }
 {
-    if divisor < 0 {
-        (-value).div_euclid(-divisor)
+    if by.value < 0 {
+        (-value.value).div_euclid(-by.value)
     } else {
-        value.div_euclid(divisor)
+        value.value.div_euclid(by.value)
     }
 }
 
 // The least whole number that is at least the quotient: the floor of the opposite, turned round.
-fn ceiling_of(value: i64, divisor: i64) -> i64
-    requires nonzero { divisor ≢ pos 0 }
-    requires value { unsigned_abs value < 2 ^ 62 }
-    requires divisor { unsigned_abs divisor < 2 ^ 62 }
-    ensures { result ≡ ceiling value divisor }
+fn ceiling_of(value: Unrounded, by: Divisor) -> i64
+    ensures { result ≡ ceiling value.value by.value }
 {
-    -floor_of(-value, divisor)
+    let opposite = Unrounded {
+        value: -value.value,
+    };
+    -floor_of(opposite, by)
 }
 
 impl Direction {
@@ -44,8 +41,8 @@ impl Direction {
         ensures { result ≡ rounded_in self value.value by.value }
     {
         match self {
-            Direction::Down => floor_of(value.value, by.value),
-            Direction::Up => ceiling_of(value.value, by.value),
+            Direction::Down => floor_of(value, by),
+            Direction::Up => ceiling_of(value, by),
         }
     }
 }
@@ -69,25 +66,18 @@ pub fn fitting(value: i64, bound: Bound) -> Result<i32, RoundingFault>
     Ok(value as i32)
 }
 
-// Of a pair of sums, in rising order, the one with the lesser quotient.
-fn lesser_by(by: Divisor, sums: Sums) -> Unrounded
-    ensures { result.value ≡ lesser by.value sums.least.value sums.greatest.value }
+// A pair of sums, in rising order, with the one first that has the lesser quotient: a negative divisor turns the pair round.
+fn by_quotient(sums: Sums, by: Divisor) -> Sums
+    ensures least { result.least.value ≡ lesser by.value sums.least.value sums.greatest.value }
+    ensures greatest { result.greatest.value ≡ greater by.value sums.least.value sums.greatest.value }
 {
     if by.value < 0 {
-        sums.greatest
+        Sums {
+            least: sums.greatest,
+            greatest: sums.least,
+        }
     } else {
-        sums.least
-    }
-}
-
-// Of a pair of sums, in rising order, the one with the greater quotient.
-fn greater_by(by: Divisor, sums: Sums) -> Unrounded
-    ensures { result.value ≡ greater by.value sums.least.value sums.greatest.value }
-{
-    if by.value < 0 {
-        sums.least
-    } else {
-        sums.greatest
+        sums
     }
 }
 
@@ -98,12 +88,10 @@ impl Rounding {
         ensures answer { result ≡ rounded_out by.value sums.least.value sums.greatest.value }
         ensures rests { self.new.direction ≡ Down }
     {
-        let lower = fitting(
-            self.direction.quotient(lesser_by(by, sums), by),
-            Bound::Lower,
-        )?;
+        let turned = by_quotient(sums, by);
+        let lower = fitting(self.direction.quotient(turned.least, by), Bound::Lower)?;
         let up = Upward::new(&mut self.direction);
-        let upper = fitting(up.quotient(greater_by(by, sums), by), Bound::Upper)?;
+        let upper = fitting(up.quotient(turned.greatest, by), Bound::Upper)?;
         Ok((lower, upper))
     }
 }
