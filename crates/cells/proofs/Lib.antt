@@ -1,4 +1,5 @@
 pub mod JoinTight
 pub mod Lawful
 mod Products
+pub mod Sides
 pub mod Sizing

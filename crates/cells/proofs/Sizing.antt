@@ -1,17 +1,13 @@
 -- Sizes of cells, of sums of products, of scales and of their squares. Assumes nothing.
-use Rattle.std.proofs.Common.{◌^◌, ◌≤◌, ℤ, pos, negsuc, ◌*ℤ◌, nat_abs, ◌≤ℤ◌, ◌<ℤ◌, arith}
+use Rattle.std.proofs.Common.{◌≤◌, ℤ, pos, negsuc, ◌*ℤ◌, nat_abs, ◌≤ℤ◌, ◌<ℤ◌, arith}
 use Rattle.std.proofs.lemmas.Nat.{mul-le}
 use Rattle.std.proofs.lemmas.Int.{ints}
 use Rattle.arithmetic.specs.Values.{bounds, Small}
 use Rattle.cells.specs.declared.cell.Interval.{Interval}
 use Rattle.cells.specs.Scales.{IsScale}
-use Rattle.cells.specs.declared.cell.Totals.{Totals}
 
 pub small_interval : (i : Interval) → Small 131071 (bounds i.lower i.upper)
 small_interval i = let a = i.low in let b = i.order in let d = i.high in (omega (arith, ints), omega (arith, ints))
-
-pub small_totals : (t : Totals) → Small (2 ^ 44) (bounds t.least t.greatest)
-small_totals t = (omega (arith, t.least_size), omega (arith, t.greatest_size))
 
 pub small_scale : (u : ℤ) → IsScale u → nat_abs u ≤ 100000
 small_scale u h = omega (arith, ints)

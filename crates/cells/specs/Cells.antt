@@ -1,34 +1,28 @@
 -- Records and cells: what a record reads as, what is written for a cell, and the rule that every cell keeps.
-use Rattle.std.specs.Prelude.{ℕ, Bool, cond, ◌||◌, List, ℤ, pos, ◌≤ℤ◌, int_lt, slice_index_or}
+use Rattle.std.specs.Prelude.{ℕ, Bool, cond, ◌||◌, List, ℤ, pos, ◌≤ℤ◌, Some, None, Option, int_lt, slice_index_or}
 use Rattle.arithmetic.specs.Values.{Value, empty, bounds}
 use Rattle.rounding.specs.Limit.{lowest, highest}
-use Rattle.cells.specs.declared.cell.Cell.{Cell}
-use Rattle.cells.specs.declared.cell.Cell.TheVariants as cell
+use Rattle.rounding.specs.declared.numbers.Sums.{Sums}
+use Rattle.cells.specs.declared.cell.Extremes.{Extremes}
+use Rattle.cells.specs.declared.cell.Interval.{Interval}
 use Rattle.cells.specs.declared.cell.Record.{Record}
-use Rattle.cells.specs.declared.cell.Loose.{Loose}
-use Rattle.cells.specs.declared.cell.Loose.TheVariants as loose
-use Rattle.cells.specs.declared.cell.Sum.{Sum}
-use Rattle.cells.specs.declared.cell.Sum.TheVariants as sum
-use Rattle.cells.specs.declared.cell.Total.{Total}
-use Rattle.cells.specs.declared.cell.Total.TheVariants as total
 
 -- what a cell of the code stands for
-abbrev pub cell_value : Cell → Value
-cell_value cell.Empty = empty
-cell_value (cell.Bounds i) = bounds i.lower i.upper
+abbrev pub cell_value : Option Interval → Value
+cell_value None = empty
+cell_value (Some i) = bounds i.lower i.upper
 
 -- what the unrounded sums of the code stand for
-abbrev pub total_value : Total → Value
-total_value total.Empty = empty
-total_value (total.Bounds t) = bounds t.least t.greatest
+abbrev pub extremes : {most : ℕ} → Extremes most → Value
+extremes e = bounds e.least e.greatest
 
-abbrev pub sum_value : Sum → Value
-sum_value sum.Empty = empty
-sum_value (sum.Bounds s) = bounds s.least.value s.greatest.value
+abbrev pub total_value : Option (Extremes 17591917609984) → Value
+total_value None = empty
+total_value (Some t) = extremes t
 
-abbrev pub loose_value : Loose → Value
-loose_value loose.Empty = empty
-loose_value (loose.Bounds a b) = bounds a b
+abbrev pub sum_value : Option Sums → Value
+sum_value None = empty
+sum_value (Some s) = bounds s.least.value s.greatest.value
 
 -- the rule of a cell: empty, or bounds in order, neither beyond the limit in size
 abbrev pub IsCell : Value → Type 0

@@ -5,7 +5,6 @@ use Rattle.rounding.specs.declared.fault.Bound.TheVariants.{Lower, Upper}
 use Rattle.rounding.specs.declared.fault.RoundingFault.{RoundingFault}
 use Rattle.rounding.specs.Outward.{fitted, both}
 use Rattle.cells.specs.declared.cell.Record.{Record}
-use Rattle.cells.specs.declared.fault.AtRow.{AtRow}
 use Rattle.cells.specs.declared.fault.CellFault.{CellFault}
 use Rattle.cells.specs.Cells.{blank}
 
@@ -19,11 +18,7 @@ abbrev pub kept : Value → Result Record RoundingFault
 kept empty = Ok blank
 kept (bounds a b) = paired (both (fitted Lower a) (fitted Upper b))
 
--- a fault with the row in which it arose, before and after it becomes the cell's
-abbrev pub placed : {T : Type 0} → ℕ → Result T RoundingFault → Result T AtRow
-placed row (Ok x) = Ok x
-placed row (Err f) = Err (record { row = row; fault = f })
-
+-- a fault with the row in which it arose
 abbrev pub in_row : {T : Type 0} → ℕ → Result T RoundingFault → Result T CellFault
 in_row row (Ok x) = Ok x
 in_row row (Err f) = Err (record { row = row; rounding = f })

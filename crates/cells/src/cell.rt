@@ -7,7 +7,7 @@ use rounding::numbers::Sums;
 
 // A cell as it lies in supplied memory: any two numbers may stand there.
 #[repr(C)]
-#[derive(Clone, Copy)]
+#[derive(Clone, Copy, PartialEq, Eq)]
 pub struct Record {
     pub lower: i32,
     pub upper: i32,
@@ -26,11 +26,8 @@ pub struct Interval {
     ghost high: { upper ≤ℤ highest },
 }
 
-#[derive(Clone, Copy)]
-pub enum Cell {
-    Empty,
-    Bounds(Interval),
-}
+// None is the empty cell.
+pub type Cell = Option<Interval>;
 
 // The number of steps to one unit, from 1 to 100,000.
 #[derive(Clone, Copy)]
@@ -46,14 +43,22 @@ pub struct Terms {
     ghost few: { count ≤ 1024 },
 }
 
-// The factors of a formula: alpha multiplies what is worked out anew, beta the old cell.
+// The factors of a formula, at the scale of all its cells: alpha multiplies what is worked out anew, beta the old cell.
 #[derive(Clone, Copy)]
 pub struct Factors {
+    pub scale: Scale,
     pub alpha: Cell,
     pub beta: Cell,
 }
 
-// The places of a row that a sum runs over, from `from` to before `to`: at most 1,024 of them.
+// The place of a column whose cell a formula works out anew.
+#[derive(Clone, Copy)]
+pub struct Target<'a> {
+    pub column: &'a [Record],
+    pub row: usize,
+}
+
+// Neighbouring places of a row or of a column, from `from` to before `to`: at most 1,024 of them.
 #[derive(Clone, Copy)]
 pub struct Places {
     pub from: usize,
@@ -62,33 +67,23 @@ pub struct Places {
     ghost few: { to ≤ 1024 },
 }
 
-// The least and the greatest value of a sum of at most 1,024 products of two cells: at most 1,024 times 131,071 squared in
-// size, which is below 2^44.
+// The least and the greatest of unrounded values, neither beyond `MOST` in size.
 #[derive(Clone, Copy)]
-pub struct Totals {
+pub struct Extremes<const MOST: u64> {
     pub least: i64,
     pub greatest: i64,
-    ghost least_size: { unsigned_abs least ≤ 17591917609984 },
-    ghost greatest_size: { unsigned_abs greatest ≤ 17591917609984 },
+    ghost least_size: { unsigned_abs least ≤ MOST },
+    ghost greatest_size: { unsigned_abs greatest ≤ MOST },
 }
 
-// A sum of products, unrounded: empty as soon as an operand is.
-#[derive(Clone, Copy)]
-pub enum Total {
-    Empty,
-    Bounds(Totals),
-}
+// Of the product of two cells: at most 131,071 squared.
+pub type Product = Extremes<17_179_607_041>;
 
-// A sum that is ready to be divided and rounded: empty as soon as an operand is.
-#[derive(Clone, Copy)]
-pub enum Sum {
-    Empty,
-    Bounds(Sums),
-}
+// Of a sum of at most 1,024 products of two cells: at most 1,024 times 131,071 squared, which is below 2^44.
+pub type Totals = Extremes<17_591_917_609_984>;
 
-// An unrounded value on its way to a total or a sum; how large it can be is said by the contracts of what makes it.
-#[derive(Clone, Copy)]
-pub(crate) enum Loose {
-    Empty,
-    Bounds(i64, i64),
-}
+// A sum of products, unrounded: none as soon as an operand is empty.
+pub type Total = Option<Totals>;
+
+// A sum that is ready to be divided and rounded: none as soon as an operand is empty.
+pub type Sum = Option<Sums>;

@@ -27,38 +27,17 @@ fn spans_zero(i: Interval) -> bool
 pub fn holds_zero(cell: Cell) -> bool
     ensures { result ≡ zero_in (cell_value cell) }
 {
-    match cell {
-        Cell::Empty => false,
-        Cell::Bounds(i) => spans_zero(i),
-    }
+    cell.is_some_and(spans_zero)
 }
 
-// The least of the four quotients, rounded down, where a cell can hold it.
-fn lower_side(direction: Direction, sums: Sums, by: Interval) -> Result<i32, RoundingFault>
-    requires down { direction ≡ Down }
-    requires apart { spans_zero by.lower by.upper ≡ false }
-    ensures { result ≡ fitted Lower (least_quotient sums.least.value sums.greatest.value by.lower by.upper) }
-{
-    fitting(least(divide(direction, sums, by)), Bound::Lower)
-}
-
-// The greatest of the four quotients, rounded up, where a cell can hold it.
-fn upper_side(direction: Direction, sums: Sums, by: Interval) -> Result<i32, RoundingFault>
-    requires up { direction ≡ Up }
-    requires apart { spans_zero by.lower by.upper ≡ false }
-    ensures { result ≡ fitted Upper (greatest_quotient sums.least.value sums.greatest.value by.lower by.upper) }
-{
-    fitting(greatest(divide(direction, sums, by)), Bound::Upper)
-}
-
-// Both sides, the lower one looked at first.
+// The least of the four quotients rounded down and the greatest up, where a cell can hold them, the lower one looked at first.
 fn divide_out(rounding: &mut Rounding, sums: Sums, by: Interval) -> Result<Record, RoundingFault>
     requires { spans_zero by.lower by.upper ≡ false }
     ensures { result ≡ kept (quotients (bounds sums.least.value sums.greatest.value) (bounds by.lower by.upper)) }
 {
-    let lower = lower_side(rounding.direction, sums, by)?;
+    let lower = fitting(least(divide(rounding.direction, sums, by)), Bound::Lower)?;
     let up = Upward::new(&mut rounding.direction);
-    let upper = upper_side(up.direction(), sums, by)?;
+    let upper = fitting(greatest(divide(up.direction(), sums, by)), Bound::Upper)?;
     Ok(Record { lower, upper })
 }
 
@@ -66,10 +45,7 @@ fn divide_out(rounding: &mut Rounding, sums: Sums, by: Interval) -> Result<Recor
 pub fn quotient_cell(rounding: &mut Rounding, sum: Sum, by: Cell) -> Result<Record, RoundingFault>
     ensures { result ≡ kept (divided (sum_value sum) (cell_value by)) }
 {
-    let Sum::Bounds(sums) = sum else {
-        return Ok(EMPTY);
-    };
-    let Cell::Bounds(divisor) = by else {
+    let (Some(sums), Some(divisor)) = (sum, by) else {
         return Ok(EMPTY);
     };
     if spans_zero(divisor) {

@@ -2,12 +2,12 @@
 // Every operand counts: an empty one empties the cell, even under a factor of zero. A place past a run's end is empty.
 ghost use Rattle.std.specs.Prelude.{◌≡◌};
 ghost use Rattle.arithmetic.specs.Values.{total};
-ghost use Rattle.cells.specs.Cells.{cell_value, loose_value, sum_value, cell_at};
+ghost use Rattle.cells.specs.Cells.{cell_value, total_value, sum_value, cell_at};
 ghost use Rattle.cells.specs.Formulas.{sum_of_products, weighted_sum};
 ghost use Rattle.cells.specs.Worked.{dot_at, sum_at, blend_at};
 
-use crate::cell::{Cell, Factors, Loose, Places, Record, Scale, Sum, Terms};
-use crate::fault::{CellFault, Placed};
+use crate::cell::{Cell, Extremes, Factors, Places, Record, Sum, Target, Terms, Total, Totals};
+use crate::fault::CellFault;
 use crate::reading::cell_at;
 use crate::rounding_out::{keep, round_out};
 use crate::totals::{Operands, blended, sum_of_products, weighted};
@@ -35,72 +35,58 @@ impl<'a, 'b> Operands for Runs<'a, 'b> {
 }
 
 // Σ x_j, unrounded.
-fn sum_of_cells(xs: &[Record], terms: Terms) -> Loose
-    ensures { loose_value result ≡ total (cell_at xs.now) 0 terms.count }
+fn sum_of_cells(xs: &[Record], terms: Terms) -> Total
+    ensures { total_value result ≡ total (cell_at xs.now) 0 terms.count }
 {
-    let mut sofar = Loose::Bounds(0, 0);
+    let mut sofar = Totals::ZERO;
     for j in 0..terms.count {
-        sofar = sofar.add(Loose::of(cell_at(xs, j)));
+        sofar = sofar.with(Extremes::from(cell_at(xs, j)?));
     }
-    sofar
+    Some(sofar)
 }
 
 // beta·r + alpha·Σ x_j·y_j, unrounded.
-fn dot_sum(
-    scale: Scale,
-    factors: Factors,
-    old: Cell,
-    xs: &[Record],
-    ys: &[Record],
-    terms: Terms,
-) -> Sum
-    ensures { sum_value result ≡ weighted_sum scale.steps (cell_value factors.alpha) (cell_value factors.beta) (cell_value old) (sum_of_products (cell_at xs.now) (cell_at ys.now) 0 terms.count) }
+fn dot_sum(factors: Factors, old: Cell, xs: &[Record], ys: &[Record], terms: Terms) -> Sum
+    ensures { sum_value result ≡ weighted_sum factors.scale.steps (cell_value factors.alpha) (cell_value factors.beta) (cell_value old) (sum_of_products (cell_at xs.now) (cell_at ys.now) 0 terms.count) }
 {
-    let products = sum_of_products(
-        &Runs { xs, ys },
-        Places {
-            from: 0,
-            to: terms.count,
-        },
-    );
-    weighted(scale, factors, old, products)
+    let places = Places {
+        from: 0,
+        to: terms.count,
+    };
+    weighted(factors, old, sum_of_products(&Runs { xs, ys }, places))
 }
 
 // beta·r + alpha·Σ x_j·y_j over the first places of two runs, r being the cell at the row.
 pub fn dot(
     rounding: &mut Rounding,
-    scale: Scale,
     factors: Factors,
-    column: &[Record],
-    row: usize,
+    target: Target<'_>,
     xs: &[Record],
     ys: &[Record],
     terms: Terms,
 ) -> Result<Record, CellFault>
-    ensures { result ≡ dot_at scale.steps (cell_value factors.alpha) (cell_value factors.beta) column.now row xs.now ys.now terms.count }
+    ensures { result ≡ dot_at factors.scale.steps (cell_value factors.alpha) (cell_value factors.beta) target.entry.column.now target.entry.row xs.now ys.now terms.count }
 {
-    let sum = dot_sum(scale, factors, cell_at(column, row), xs, ys, terms);
-    Ok(round_out(rounding, sum, scale.squared()).at(row)?)
+    let sum = dot_sum(factors, target.old(), xs, ys, terms);
+    Ok(round_out(rounding, sum, factors.scale.squared()).map_err(|fault| (target.row, fault))?)
 }
 
 // Σ x_j over the first places of a run.
 pub fn sum(xs: &[Record], terms: Terms, row: usize) -> Result<Record, CellFault>
     ensures { result ≡ sum_at row xs.now terms.count }
 {
-    Ok(keep(sum_of_cells(xs, terms)).at(row)?)
+    Ok(keep(sum_of_cells(xs, terms)).map_err(|fault| (row, fault))?)
 }
 
 // alpha·x + beta·r, x and r being the cells at the row of two runs.
 pub fn blend(
     rounding: &mut Rounding,
-    scale: Scale,
     factors: Factors,
-    column: &[Record],
-    row: usize,
+    target: Target<'_>,
     xs: &[Record],
 ) -> Result<Record, CellFault>
-    ensures { result ≡ blend_at scale.steps (cell_value factors.alpha) (cell_value factors.beta) column.now row xs.now }
+    ensures { result ≡ blend_at factors.scale.steps (cell_value factors.alpha) (cell_value factors.beta) target.entry.column.now target.entry.row xs.now }
 {
-    let sum = blended(factors, cell_at(xs, row), cell_at(column, row));
-    Ok(round_out(rounding, sum, scale.once()).at(row)?)
+    let sum = blended(factors, cell_at(xs, target.row), target.old());
+    Ok(round_out(rounding, sum, factors.scale.once()).map_err(|fault| (target.row, fault))?)
 }

@@ -1,50 +1,32 @@
-// The four products of the bounds of two cells and the four quotients of a sum by a cell, by value, and the least and the
-// greatest of four numbers.
+// The four products of the bounds of a cell and of unrounded values and the four quotients of a sum by a cell, by value, and
+// the least and the greatest of four numbers.
 ghost use Rattle.std.specs.Prelude.{◌≡◌, ◌^◌, ◌≤◌, false, ◌*ℤ◌, unsigned_abs};
 ghost use Rattle.arithmetic.specs.Four.{least, greatest, products};
 ghost use Rattle.arithmetic.specs.Values.{spans_zero};
 ghost use Rattle.cells.specs.Quotients.{quotients_in};
 
-use crate::cell::{Interval, Totals};
+use crate::cell::{Extremes, Interval};
 use rounding::direction::Direction;
 use rounding::numbers::{Divisor, Sums};
 
-fn times(x: i32, y: i32) -> i64
-    ensures { result ≡ x *ℤ y }
-{
-    x as i64 * y as i64
-}
-
-// The four products of the bounds of two cells.
-pub(crate) fn multiply(a: Interval, b: Interval) -> [i64; 4]
-    ensures { result ≡ products a.lower a.upper b.lower b.upper }
-{
-    [
-        times(a.lower, b.lower),
-        times(a.lower, b.upper),
-        times(a.upper, b.lower),
-        times(a.upper, b.upper),
-    ]
-}
-
-// The product of a bound and a sum of products.
-fn times_wide(x: i32, y: i64) -> i64
+fn times(x: i32, y: i64) -> i64
     requires bound { unsigned_abs x ≤ 131071 }
-    requires sum { unsigned_abs y ≤ 2 ^ 44 }
+    requires value { unsigned_abs y ≤ 2 ^ 44 }
     ensures { result ≡ x *ℤ y }
 {
     x as i64 * y
 }
 
-// The four products of the bounds of a cell and those of a sum of products.
-pub(crate) fn multiply_total(a: Interval, total: Totals) -> [i64; 4]
-    ensures { result ≡ products a.lower a.upper total.least total.greatest }
+// The four products of the bounds of a cell and the extremes of unrounded values.
+pub(crate) fn multiply<const MOST: u64>(a: Interval, b: Extremes<MOST>) -> [i64; 4]
+    requires { MOST ≤ 2 ^ 44 }
+    ensures { result ≡ products a.lower a.upper b.entry.least b.entry.greatest }
 {
     [
-        times_wide(a.lower, total.least),
-        times_wide(a.lower, total.greatest),
-        times_wide(a.upper, total.least),
-        times_wide(a.upper, total.greatest),
+        times(a.lower, b.least),
+        times(a.lower, b.greatest),
+        times(a.upper, b.least),
+        times(a.upper, b.greatest),
     ]
 }
 

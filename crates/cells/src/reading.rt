@@ -3,7 +3,7 @@ ghost use Rattle.std.specs.Prelude.{◌≡◌, ◌<◌, ◌≤◌, MatchOption};
 ghost use Rattle.cells.specs.Cells.{cell_value, read_as, written, cell_at};
 ghost use Rattle.cells.specs.Scales.{IsScale};
 
-use crate::cell::{Cell, EMPTY, Interval, Record, Scale, Terms};
+use crate::cell::{Cell, EMPTY, Interval, Record, Scale, Target, Terms};
 use rounding::rest::dividing::LIMIT;
 
 // What a record reads as: a record that breaks the rule of a cell reads as the empty one.
@@ -11,24 +11,35 @@ pub fn read(record: Record) -> Cell
     ensures { cell_value result ≡ read_as «record» }
 {
     if record.lower < -LIMIT || record.upper > LIMIT || record.lower > record.upper {
-        return Cell::Empty;
+        return None;
     }
-    Cell::Bounds(Interval {
+    Some(Interval {
         lower: record.lower,
         upper: record.upper,
     })
 }
 
-// The record that is written for a cell.
-pub fn write(cell: Cell) -> Record
-    ensures { result ≡ written (cell_value cell) }
-{
-    match cell {
-        Cell::Empty => EMPTY,
-        Cell::Bounds(i) => Record {
-            lower: i.lower,
-            upper: i.upper,
-        },
+// A record by its two numbers, lower first.
+impl From<(i32, i32)> for Record {
+    ghost from_gives = { λ a r. r ≡ record { lower = a.0; upper = a.1 } };
+
+    fn from((lower, upper): (i32, i32)) -> Record {
+        Record { lower, upper }
+    }
+}
+
+// The record that is written for a cell. The other way is `read` by name: it loses what a broken record held.
+impl From<Cell> for Record {
+    ghost from_gives = { λ c r. r ≡ written (cell_value c) };
+
+    fn from(cell: Cell) -> Record {
+        match cell {
+            None => EMPTY,
+            Some(i) => Record {
+                lower: i.lower,
+                upper: i.upper,
+            },
+        }
     }
 }
 
@@ -36,10 +47,15 @@ pub fn write(cell: Cell) -> Record
 pub fn cell_at(run: &[Record], place: usize) -> Cell
     ensures { cell_value result ≡ cell_at run.now place }
 {
-    if place < run.len() {
-        read(run[place])
-    } else {
-        Cell::Empty
+    read(*run.get(place)?)
+}
+
+impl Target<'_> {
+    // The cell that stands there before.
+    pub fn old(self) -> Cell
+        ensures { cell_value result ≡ cell_at self.entry.column.now self.entry.row }
+    {
+        cell_at(self.column, self.row)
     }
 }
 

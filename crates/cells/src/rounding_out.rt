@@ -1,10 +1,10 @@
 // A sum that is divided by a whole number and rounded out, or kept as it is: the record of the cell, or the fault.
 ghost use Rattle.std.specs.Prelude.{◌≡◌};
 ghost use Rattle.arithmetic.specs.Values.{rounded};
-ghost use Rattle.cells.specs.Cells.{loose_value, sum_value};
+ghost use Rattle.cells.specs.Cells.{total_value, sum_value};
 ghost use Rattle.cells.specs.Faults.{kept};
 
-use crate::cell::{EMPTY, Loose, Record, Sum};
+use crate::cell::{EMPTY, Record, Sum, Total};
 use rounding::fault::{Bound, RoundingFault};
 use rounding::numbers::Divisor;
 use rounding::rest::Rounding;
@@ -14,21 +14,21 @@ use rounding::rest::dividing::fitting;
 pub fn round_out(rounding: &mut Rounding, sum: Sum, by: Divisor) -> Result<Record, RoundingFault>
     ensures { result ≡ kept (rounded by.value (sum_value sum)) }
 {
-    let Sum::Bounds(sums) = sum else {
+    let Some(sums) = sum else {
         return Ok(EMPTY);
     };
     let (lower, upper) = rounding.outward(sums, by)?;
     Ok(Record { lower, upper })
 }
 
-// A value that is in steps already.
-pub(crate) fn keep(value: Loose) -> Result<Record, RoundingFault>
-    ensures { result ≡ kept (loose_value value) }
+// A total that is in steps already.
+pub(crate) fn keep(total: Total) -> Result<Record, RoundingFault>
+    ensures { result ≡ kept (total_value total) }
 {
-    let Loose::Bounds(low, high) = value else {
+    let Some(bounds) = total else {
         return Ok(EMPTY);
     };
-    let lower = fitting(low, Bound::Lower)?;
-    let upper = fitting(high, Bound::Upper)?;
+    let lower = fitting(bounds.least, Bound::Lower)?;
+    let upper = fitting(bounds.greatest, Bound::Upper)?;
     Ok(Record { lower, upper })
 }

@@ -1,42 +1,30 @@
-// Unrounded values: products of cells and their sums, each empty as soon as an operand is.
+// Unrounded values: products of cells and their sums.
 // The sizes say why no word overflows: a product is at most 131,071 squared, 1,024 of them stay below 2^44, a cell times
 // that below 2^61, and a product times the scale below 2^51.
-ghost use Rattle.std.specs.Prelude.{◌≡◌, ◌-◌, ◌*◌, ◌^◌, ◌≤◌, pos, ◌*ℤ◌, ◌≤ℤ◌, ◌<ℤ◌, unsigned_abs};
-ghost use Rattle.arithmetic.specs.Values.{times, plus, opposite, rescaled, Small};
-ghost use Rattle.cells.specs.Cells.{cell_value, loose_value, total_value, sum_value};
+ghost use Rattle.std.specs.Prelude.{◌≡◌, ◌+◌, ◌*◌, ◌^◌, ◌<◌, ◌≤◌, pos, ◌+ℤ◌, ◌*ℤ◌, ◌≤ℤ◌, ◌<ℤ◌, unsigned_abs};
+ghost use Rattle.arithmetic.specs.Values.{bounds, times, plus, opposite, rescaled, Small};
+ghost use Rattle.cells.specs.Cells.{extremes};
 
-use crate::cell::{Cell, Loose, Scale, Sum, Total, Totals};
-use crate::four::{greatest, least, multiply, multiply_total};
+use crate::cell::{Extremes, Interval, Product, Scale, Totals};
+use crate::four::{greatest, least, multiply};
 use rounding::numbers::{Divisor, Sums, Unrounded};
 
-// From the least to the greatest of the four products of bounds.
-pub(crate) fn product(a: Cell, b: Cell) -> Loose
-    ensures is { loose_value result ≡ times (cell_value a) (cell_value b) }
-    ensures size { Small 17179607041 (loose_value result) }
-{
-    let Cell::Bounds(x) = a else {
-        return Loose::Empty;
-    };
-    let Cell::Bounds(y) = b else {
-        return Loose::Empty;
-    };
-    let four = multiply(x, y);
-    Loose::Bounds(least(four), greatest(four))
-}
+// Of a cell times a sum of products: below 2^61.
+pub(crate) type Weighted = Extremes<2_305_790_233_058_212_864>;
 
-// A cell times a sum of products.
-pub(crate) fn total_product(a: Cell, total: Total) -> Loose
-    ensures is { loose_value result ≡ times (cell_value a) (total_value total) }
-    ensures size { Small (131071 * 2 ^ 44) (loose_value result) }
-{
-    let Cell::Bounds(x) = a else {
-        return Loose::Empty;
-    };
-    let Total::Bounds(y) = total else {
-        return Loose::Empty;
-    };
-    let four = multiply_total(x, y);
-    Loose::Bounds(least(four), greatest(four))
+impl Interval {
+    // From the least to the greatest of the four products of bounds.
+    pub(crate) fn times<const MOST: u64, const ALL: u64>(self, b: Extremes<MOST>) -> Extremes<ALL>
+        requires factor { MOST ≤ 2 ^ 44 }
+        requires all { 131071 * MOST ≤ ALL }
+        ensures { extremes result ≡ times (bounds self.lower self.upper) (extremes b.entry) }
+    {
+        let four = multiply(self, b);
+        Extremes {
+            least: least(four),
+            greatest: greatest(four),
+        }
+    }
 }
 
 // The square of the number of steps.
@@ -75,87 +63,75 @@ impl Scale {
     }
 }
 
-impl Loose {
-    // A single cell.
-    pub(crate) fn of(cell: Cell) -> Loose
-        ensures is { loose_value result ≡ cell_value cell }
-        ensures size { Small 131071 (loose_value result) }
+impl From<Interval> for Extremes<131_071> {
+    ghost from_gives = { λ i r. extremes r ≡ bounds i.lower i.upper };
+
+    fn from(i: Interval) -> Extremes<131_071> {
+        Extremes {
+            least: i.lower as i64,
+            greatest: i.upper as i64,
+        }
+    }
+}
+
+impl Product {
+    pub(crate) fn of(a: Interval, b: Interval) -> Product
+        ensures { extremes result ≡ times (bounds a.lower a.upper) (bounds b.lower b.upper) }
     {
-        match cell {
-            Cell::Empty => Loose::Empty,
-            Cell::Bounds(i) => Loose::Bounds(i.lower as i64, i.upper as i64),
+        a.times(Extremes::from(b))
+    }
+
+    // The same at a scale that is finer by the number of steps.
+    pub(crate) fn scaled(self, scale: Scale) -> Extremes<2_251_799_813_685_248>
+        ensures { extremes result ≡ rescaled scale.steps (extremes self) }
+    {
+        Extremes {
+            least: finer(self.least, scale),
+            greatest: finer(self.greatest, scale),
+        }
+    }
+}
+
+impl Totals {
+    // The sum of no terms.
+    pub const ZERO: Totals = Extremes {
+        least: 0,
+        greatest: 0,
+    };
+
+    // One term more.
+    pub(crate) fn with<const MOST: u64>(self, term: Extremes<MOST>) -> Totals
+        requires { Small 17591917609984 (plus (extremes self) (extremes term)) }
+        ensures { extremes result ≡ plus (extremes self) (extremes term.entry) }
+    {
+        Extremes {
+            least: self.least + term.least,
+            greatest: self.greatest + term.greatest,
         }
     }
 
-    // A sum of products, to be added to.
-    pub(crate) fn of_total(total: Total) -> Loose
-        ensures is { loose_value result ≡ total_value total }
-        ensures size { Small (2 ^ 44) (loose_value result) }
+    pub(crate) fn negated(self) -> Totals
+        ensures { extremes result ≡ opposite (extremes self) }
     {
-        match total {
-            Total::Empty => Loose::Empty,
-            Total::Bounds(t) => Loose::Bounds(t.least, t.greatest),
+        Extremes {
+            least: -self.greatest,
+            greatest: -self.least,
         }
     }
+}
 
-    // A product at a scale that is finer by the number of steps.
-    pub(crate) fn scaled(self, scale: Scale) -> Loose
-        requires { Small 17179607041 (loose_value self) }
-        ensures is { loose_value result ≡ rescaled scale.steps (loose_value self) }
-        ensures size { Small (2 ^ 51) (loose_value result) }
-    {
-        match self {
-            Loose::Bounds(a, b) => Loose::Bounds(finer(a, scale), finer(b, scale)),
-            Loose::Empty => Loose::Empty,
-        }
-    }
-
-    pub(crate) fn add(self, other: Loose) -> Loose
-        requires left { Small (2 ^ 61) (loose_value self) }
-        requires right { Small (2 ^ 61) (loose_value other) }
-        ensures { loose_value result ≡ plus (loose_value self) (loose_value other) }
-    {
-        match (self, other) {
-            (Loose::Bounds(a, b), Loose::Bounds(c, d)) => Loose::Bounds(a + c, b + d),
-            _ => Loose::Empty,
-        }
-    }
-
-    pub(crate) fn negated(self) -> Loose
-        requires { Small (2 ^ 44) (loose_value self) }
-        ensures is { loose_value result ≡ opposite (loose_value self) }
-        ensures size { Small (2 ^ 44) (loose_value result) }
-    {
-        match self {
-            Loose::Bounds(a, b) => Loose::Bounds(-b, -a),
-            Loose::Empty => Loose::Empty,
-        }
-    }
-
-    // A value that is no larger than 1,024 products.
-    pub(crate) fn total(self) -> Total
-        requires { Small 17591917609984 (loose_value self) }
-        ensures { total_value result ≡ loose_value self }
-    {
-        match self {
-            Loose::Bounds(least, greatest) => Total::Bounds(Totals { least, greatest }),
-            Loose::Empty => Total::Empty,
-        }
-    }
-
-    // A value that can be divided.
-    pub(crate) fn sum(self) -> Sum
-        requires { Small (2 ^ 62 - 1) (loose_value self) }
-        ensures { sum_value result ≡ loose_value self }
-    {
-        match self {
-            Loose::Bounds(least, greatest) => {
-                Sum::Bounds(Sums {
-                    least: Unrounded { value: least },
-                    greatest: Unrounded { value: greatest },
-                })
-            }
-            Loose::Empty => Sum::Empty,
-        }
+// A sum of two unrounded values that is ready to be divided.
+pub(crate) fn added<const A: u64, const B: u64>(a: Extremes<A>, b: Extremes<B>) -> Sums
+    requires { A + B < 2 ^ 62 }
+    ensures least { result.least.value ≡ a.entry.least +ℤ b.entry.least }
+    ensures greatest { result.greatest.value ≡ a.entry.greatest +ℤ b.entry.greatest }
+{
+    Sums {
+        least: Unrounded {
+            value: a.least + b.least,
+        },
+        greatest: Unrounded {
+            value: a.greatest + b.greatest,
+        },
     }
 }

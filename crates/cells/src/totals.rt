@@ -4,8 +4,8 @@ ghost use Rattle.arithmetic.specs.Values.{Value, times, plus, Small};
 ghost use Rattle.cells.specs.Cells.{cell_value, total_value, sum_value};
 ghost use Rattle.cells.specs.Formulas.{sum_of_products, weighted_sum, blended_sum, remainder_sum};
 
-use crate::cell::{Cell, Factors, Loose, Places, Scale, Sum, Total};
-use crate::sums::{product, total_product};
+use crate::cell::{Cell, Factors, Places, Product, Sum, Total, Totals};
+use crate::sums::{Weighted, added};
 
 // What a sum of products is taken over: two cells at each place. One loop then serves every formula.
 pub trait Operands {
@@ -24,12 +24,12 @@ pub trait Operands {
 pub fn sum_of_products<O: Operands>(operands: &O, places: Places) -> Total
     ensures { total_value result ≡ sum_of_products (O.Operands.lefts operands.now) (O.Operands.rights operands.now) places.from (places.to - places.from) }
 {
-    let mut sofar = Loose::Bounds(0, 0);
+    let mut sofar = Totals::ZERO;
     for j in places.from..places.to {
-        let term = product(operands.left(j), operands.right(j));
-        sofar = sofar.add(term);
+        let term = Product::of(operands.left(j)?, operands.right(j)?);
+        sofar = sofar.with(term);
     }
-    sofar.total()
+    Some(sofar)
 }
 
 // One product more, for sums that are worked on side by side. The sum holds at most 1,023 products before.
@@ -38,32 +38,31 @@ pub fn add_product(sofar: Total, x: Cell, y: Cell) -> Total
     ensures is { total_value result ≡ plus (total_value sofar) (times (cell_value x) (cell_value y)) }
     ensures size { (n : ℕ) → Small n (total_value sofar) → Small (n + 17179607041) (total_value result) }
 {
-    Loose::of_total(sofar).add(product(x, y)).total()
+    Some(sofar?.with(Product::of(x?, y?)))
 }
 
 // beta·r + alpha·Σ, at the scale of a product of three cells.
-pub fn weighted(scale: Scale, factors: Factors, old: Cell, total: Total) -> Sum
-    ensures { sum_value result ≡ weighted_sum scale.steps (cell_value factors.alpha) (cell_value factors.beta) (cell_value old) (total_value total) }
+pub fn weighted(factors: Factors, old: Cell, total: Total) -> Sum
+    ensures { sum_value result ≡ weighted_sum factors.scale.steps (cell_value factors.alpha) (cell_value factors.beta) (cell_value old) (total_value total) }
 {
-    let kept = product(factors.beta, old).scaled(scale);
-    let worked = total_product(factors.alpha, total);
-    kept.add(worked).sum()
+    let kept = Product::of(factors.beta?, old?).scaled(factors.scale);
+    let worked: Weighted = factors.alpha?.times(total?);
+    Some(added(kept, worked))
 }
 
 // alpha·x + beta·r, at the scale of a product of two cells.
 pub(crate) fn blended(factors: Factors, x: Cell, old: Cell) -> Sum
     ensures { sum_value result ≡ blended_sum (cell_value factors.alpha) (cell_value factors.beta) (cell_value x) (cell_value old) }
 {
-    let worked = product(factors.alpha, x);
-    let kept = product(factors.beta, old);
-    worked.add(kept).sum()
+    let worked = Product::of(factors.alpha?, x?);
+    let kept = Product::of(factors.beta?, old?);
+    Some(added(worked, kept))
 }
 
 // alpha·x − Σ, at the scale of a product of two cells.
 pub fn remainder(alpha: Cell, x: Cell, total: Total) -> Sum
     ensures { sum_value result ≡ remainder_sum (cell_value alpha) (cell_value x) (total_value total) }
 {
-    let right = product(alpha, x);
-    let solved = Loose::of_total(total).negated();
-    right.add(solved).sum()
+    let right = Product::of(alpha?, x?);
+    Some(added(right, total?.negated()))
 }

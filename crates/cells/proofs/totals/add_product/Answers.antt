@@ -1,16 +1,13 @@
-use Rattle.std.proofs.Common.{◌≡◌, ◌+◌, sym, ap, ◌∙◌, subst}
-use Rattle.arithmetic.specs.Values.{Value, plus, Small}
+use Rattle.std.proofs.Common.{◌+◌, Option, sym, subst}
+use Rattle.arithmetic.specs.Values.{Value, Small}
 use Rattle.arithmetic.proofs.Sizes.{small_plus}
-use Rattle.cells.specs.Cells.{loose_value, total_value}
+use Rattle.cells.specs.declared.cell.Extremes.{Extremes}
+use Rattle.cells.specs.Cells.{extremes, total_value}
 use Rattle.cells.proofs.totals.add_product.Goals as goal
 
-pub returns : goal.returns
-returns c =
-    let sofar = loose_value c.of_total.result in let term = loose_value c.product.result in
-    let all : total_value c.total.result ≡ plus sofar term = c.total.ensures ∙ c.add.ensures in
-    let old : sofar ≡ total_value c.args.sofar = c.of_total.ensures.is in
-    record {
-      is = all ∙ ap (λ (v : Value). plus v term) old ∙ ap (plus (total_value c.args.sofar)) c.product.ensures.is;
-      size = λ n h. let P : Value → Type 0 = Small (n + 17179607041) in let Q : Value → Type 0 = Small n in
-          subst P (sym all) (small_plus n 17179607041 sofar term (subst Q (sym old) h) c.product.ensures.size);
-    }
+pub returns-clause-size : goal.returns-clause-size
+returns-clause-size c = λ n h.
+    let t = c.in_ok-sofar.field-0 in let p = c.of.result in
+    let P : Option (Extremes 17591917609984) → Type 0 = λ v. Small n (total_value v) in
+    let Q : Value → Type 0 = Small (n + 17179607041) in
+    subst Q (sym c.with.ensures) (small_plus n 17179607041 (extremes t) (extremes p) (subst P c.in_ok-sofar.was h) (p.least_size, p.greatest_size))
