@@ -2,6 +2,7 @@
 ghost use Rattle.std.specs.Prelude.{◌≡◌, ◌+◌, ◌*◌, ◌<◌, min, max, nat_le};
 ghost use Rattle.arithmetic.specs.Values.{zeros};
 ghost use Rattle.cells.specs.Cells.{cell_value};
+ghost use Rattle.layouts.specs.Filled.{is_filled};
 ghost use Rattle.layouts.specs.Layers.{smaller as smaller-of};
 ghost use Rattle.layouts.specs.Refusals.{Checked};
 ghost use Rattle.layouts.specs.Sides.{on_side};
@@ -16,10 +17,9 @@ use cells::cell::{Cell, Interval};
 pub(crate) fn has_room(stride: usize, columns: usize, len: usize) -> bool
     ensures { result ≡ nat_le (stride * columns) len }
 {
-    match stride.checked_mul(columns) {
-        Some(places) => places <= len,
-        None => false,
-    }
+    stride
+        .checked_mul(columns)
+        .is_some_and(|places| places <= len)
 }
 
 pub(crate) fn checked(fit: bool) -> Result<(), LayoutRefusal>
@@ -30,6 +30,12 @@ pub(crate) fn checked(fit: bool) -> Result<(), LayoutRefusal>
     } else {
         Err(LayoutRefusal::UnfitFigures)
     }
+}
+
+pub(crate) fn is_filled(cell: Cell) -> bool
+    ensures { result ≡ is_filled (cell_value cell) }
+{
+    !matches!(cell, Cell::Empty)
 }
 
 pub(crate) fn zero() -> Cell

@@ -7,6 +7,7 @@ ghost use Rattle.layouts.specs.Filled.{Filled, Lacking};
 ghost use Rattle.layouts.specs.Orders.{row_at, rows_in_order, first_zero};
 ghost use Rattle.layouts.specs.Rows.{solved_sum, solve_at};
 
+use crate::figures::is_filled;
 use crate::layout::{Layout, Triangular};
 use crate::product::filled_sum;
 use crate::side::Side;
@@ -33,13 +34,9 @@ pub fn first_zero<T: Triangular>(layout: &T) -> Option<usize>
 {
     let n = layout.rows();
     let side = layout.side();
-    for step in 0..n {
-        let row = row_at(side, n, step);
-        if holds_zero(layout.entry(row, row)) {
-            return Some(row);
-        }
-    }
-    None
+    (0..n)
+        .map(|step| row_at(side, n, step))
+        .find(|row| holds_zero(layout.entry(*row, *row)))
 }
 
 fn all_filled(run: &[Record], from: usize, to: usize) -> bool
@@ -47,12 +44,7 @@ fn all_filled(run: &[Record], from: usize, to: usize) -> bool
     ensures yes { result ≡ true → Filled run.now from to }
     ensures no { result ≡ false → Lacking run.now from to }
 {
-    for place in from..to {
-        if let Cell::Empty = cell_at(run, place) {
-            return false;
-        }
-    }
-    true
+    (from..to).all(|place| is_filled(cell_at(run, place)))
 }
 
 // Σ over the columns from `from` to before `to`, unrounded.

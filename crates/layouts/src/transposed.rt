@@ -42,9 +42,6 @@ impl<T: Triangular> Triangular for Transposed<T> {
     ghost half = { λ t. opposite (T.Triangular.half t.below) };
 
     fn side(&self) -> Side {
-        match self.below.side() {
-            Side::Lower => Side::Upper,
-            Side::Upper => Side::Lower,
-        }
+        self.below.side().opposite()
     }
 }
