@@ -3,7 +3,7 @@ ghost use Rattle.std.specs.Prelude.{◌≡◌, false};
 ghost use Rattle.cells.specs.Cells.{cell_at};
 ghost use Rattle.layouts.specs.Filled.{is_filled, Filled};
 
-use crate::figures::is_filled;
+use crate::entries::is_filled;
 use cells::cell::Record;
 use cells::reading::read;
 

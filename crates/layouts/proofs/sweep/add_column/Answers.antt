@@ -42,9 +42,9 @@ loop-row-preserved g c =
 
 pub returns : goal.returns
 returns g c =
-    let m = g.L.Layout.meaning c.args.layout.now in let l = c.loop-row in let was = c.args.sums.now in let z = c.down-span.ensures in
+    let m = g.L.Layout.meaning c.args.layout.now in let l = c.loop-row in let was = c.args.sums.now in let z = c.down-places.ensures in
     let j = c.args.column in let v = cell_value c.args.x in
-    let after : (k : ℕ) → k < length was → l.row ≤ k → c.down-span.result.to ≤ k = λ k h r. omega (arith, c.loop-row-test.false, c.min-row-end.ensures, h, r) in
+    let after : (k : ℕ) → k < length was → l.row ≤ k → c.down-places.result.to ≤ k = λ k h r. omega (arith, c.loop-row-test.false, c.min-row-end.ensures, h, r) in
     record {
       is = λ k h r. ⊎_elim (λ (b : k < l.row). l.invariant.0 k b ∙ ap (λ (x : Cell). plus (total_value (get_or was k Empty)) (times (m.entry k j) (cell_value x))) (sym c.in-Bounds.is))
           (λ (b : l.row ≤ k). ap total_value (l.invariant.2 k b) ∙ sym (still (total_value (get_or was k Empty)) (m.entry k j) v (z.after k (after k h b) r) c.requires.filled)) (cases_lt k l.row);

@@ -8,7 +8,7 @@ use Rattle.std.specs.List.{range_with_len, list_all}
 use borrow.Author.Tests.{tests}
 use Rattle.cells.specs.Cells.{cell_at}
 use Rattle.layouts.specs.Filled.{is_filled}
-use Rattle.layouts.proofs.solve.all_filled.Goals as goal
+use Rattle.layouts.proofs.operands.all_filled.Goals as goal
 
 -- what all of a range pass, each of its numbers does
 each : (p : ℕ → Bool) (from n k : ℕ) → list_all p (range_with_len from n) ≡ true → from ≤ k → k < from + n → p k ≡ true
@@ -18,8 +18,8 @@ each p from n k e a b =
 
 pub returns-clause-yes : goal.returns-clause-yes
 returns-clause-yes c e k a b =
-    let p : ℕ → Bool = λ k. is_filled (cell_at c.args.run.now k) in let from = c.args.from in let n = c.args.to - from in
-    let all = all_from_yields_List p _ _ _ c.all.ensures.ran (YieldsList-from_range from c.args.to n (search rules) (search rules)) (λ x b q k. search (rules, tests)) in
+    let p : ℕ → Bool = λ k. is_filled (cell_at c.args.run.now k) in let from = c.args.places.from in let n = c.args.places.to - from in
+    let all = all_from_yields_List p _ _ _ c.all.ensures.ran (YieldsList-from_range from c.args.places.to n (search rules) (search rules)) (λ x b q k. search (rules, tests)) in
     each p from n k (sym all ∙ e) a (omega arith)
 
 pub returns-clause-no : goal.returns-clause-no
