@@ -36,6 +36,8 @@ fn add_column<L: Layout>(layout: &L, column: usize, x: Cell, sums: &mut [Total])
         return;
     };
     let places = layout.down(column);
+    // the rows are counted: a chain over `iter_mut` with `take` and `skip` tells nothing of the sums that it leaves, and a part
+    // of the sums has its own count, from 0 on
     for row in places.from..places.to.min(sums.len()) {
         sums[row] = add_product(sums[row], layout.entry(row, column), Cell::Bounds(factor));
     }
