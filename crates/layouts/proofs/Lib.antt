@@ -3,5 +3,4 @@ pub mod Mirrors
 pub mod Orders
 pub mod Places
 pub mod Skips
-pub mod Steps
 pub mod Sweeps

@@ -1,15 +1,12 @@
--- The rows in working order, one step at a time, and the search for a diagonal entry that holds 0. Assumes nothing.
-use Rattle.std.proofs.Common.{◌≡◌, ℕ, ◌+◌, ◌-◌, ◌<◌, ◌≤◌, true, false, [], ◌∷◌, map, drop, Some, refl, ap, ◌∙◌, arith}
+-- The rows in working order, one step at a time. Assumes nothing.
+use Rattle.std.proofs.Common.{◌≡◌, ℕ, ◌+◌, ◌-◌, ◌<◌, ◌≤◌, [], ◌∷◌, map, drop, refl, ap, ◌∙◌, arith}
 use Rattle.std.specs.List.{range_with_len}
 use Rattle.std.proofs.lemmas.List.FromFn.{length-map-range_with_len, get_or-map-range_with_len}
 use Rattle.std.proofs.lemmas.List.{drop_more, drop_all}
-use Rattle.std.proofs.lemmas.Bool.{cond-true, cond-false}
-use Rattle.cells.specs.Quotients.{zero_in}
 use Rattle.layouts.specs.declared.side.Side.{Side}
 use Rattle.layouts.specs.declared.side.Side.TheVariants.{Lower, Upper}
 use Rattle.layouts.specs.Laws.{SolvedBefore}
-use Rattle.layouts.specs.Matrix.{Matrix}
-use Rattle.layouts.specs.Orders.{row_at, rows_in_order, first_zero}
+use Rattle.layouts.specs.Orders.{row_at, rows_in_order}
 
 pub rows_more : (side : Side) (n s : ℕ) → s < n → drop s (rows_in_order side n) ≡ row_at side n s ∷ drop (s + 1) (rows_in_order side n)
 unfolding rows_in_order
@@ -33,10 +30,3 @@ solved_earlier Upper n s j h b = (n - 1 - j, omega (arith, b.least, b.most), ome
 pub earlier_solved : (side : Side) (n s q : ℕ) → s < n → q < s → SolvedBefore side n (row_at side n s) (row_at side n q)
 earlier_solved Lower n s q h k = record { least = omega arith; most = omega arith }
 earlier_solved Upper n s q h k = record { least = omega arith; most = omega arith }
-
-module _ (m : Matrix) (side : Side) (n s : ℕ) (h : s < n) where
-  pub zero_here : zero_in (m.entry (row_at side n s) (row_at side n s)) ≡ true → first_zero m (drop s (rows_in_order side n)) ≡ Some (row_at side n s)
-  zero_here e = ap (first_zero m) (rows_more side n s h) ∙ cond-true (zero_in (m.entry (row_at side n s) (row_at side n s))) _ _ e
-
-  pub zero_later : zero_in (m.entry (row_at side n s) (row_at side n s)) ≡ false → first_zero m (drop s (rows_in_order side n)) ≡ first_zero m (drop (s + 1) (rows_in_order side n))
-  zero_later e = ap (first_zero m) (rows_more side n s h) ∙ cond-false (zero_in (m.entry (row_at side n s) (row_at side n s))) _ _ e

@@ -4,10 +4,10 @@ use Rattle.std.proofs.Common.{◌≡◌, ℕ, ◌+◌, ◌-◌, ◌≤◌, min, 
 use Rattle.std.proofs.lemmas.Bool.{false≢true, true≢false}
 use Rattle.arithmetic.specs.Values.{Value, empty, bounds, zeros, times, plus}
 use Rattle.arithmetic.proofs.Totals.{times_zeros, times_empty, plus_zeros, total_inside, total_empty}
+use Rattle.cells.specs.declared.cell.Places.{Places}
 use Rattle.cells.specs.declared.cell.Record.{Record}
 use Rattle.cells.specs.Cells.{cell_at}
 use Rattle.cells.specs.Formulas.{sum_of_products}
-use Rattle.layouts.specs.declared.span.Span.{Span}
 use Rattle.layouts.specs.Filled.{is_filled, Filled, Lacking}
 use Rattle.layouts.specs.Matrix.{Matrix}
 use Rattle.layouts.specs.Spans.{ZeroAcross}
@@ -27,14 +27,14 @@ zero_term t v z f = ap (λ (w : Value). times w v) z ∙ times_zeros v (not_empt
 pub still : (sofar t v : Value) → t ≡ zeros → is_filled v ≡ true → plus sofar (times t v) ≡ sofar
 still sofar t v z f = ap (plus sofar) (zero_term t v z f) ∙ plus_zeros sofar
 
--- s is the part of the row's span a from `from` to before `to`
-pub skipped : (m : Matrix) (run : List Record) (i from to : ℕ) (a s : Span) → from ≤ to → to ≤ m.columns → Filled run from to → ZeroAcross m i a
-    → s.to ≡ min to (max from a.to) → s.from ≡ min s.to (max from a.from)
-    → sum_of_products (m.entry i) (cell_at run) from (to - from) ≡ sum_of_products (m.entry i) (cell_at run) s.from (s.to - s.from)
-skipped m run i from to a s h k f z et ef =
-    total_inside (λ j. times (m.entry i j) (cell_at run j)) from to s.from s.to (omega (arith, et, ef, z.order)) (omega (arith, ef)) (omega (arith, et))
-    (λ j p q. zero_term (m.entry i j) (cell_at run j) (z.before j (omega (arith, ef, p, q))) (f j p (omega (arith, et, ef, q))))
-    (λ j p q. zero_term (m.entry i j) (cell_at run j) (z.after j (omega (arith, et, p, q)) (omega (arith, q, k))) (f j (omega (arith, et, p, q)) q))
+-- s is the part of the row's places a that is among p
+pub skipped : (m : Matrix) (run : List Record) (i : ℕ) (p a s : Places) → p.to ≤ m.columns → Filled run p.from p.to → ZeroAcross m i a
+    → s.to ≡ min p.to (max p.from a.to) → s.from ≡ min s.to (max p.from a.from)
+    → sum_of_products (m.entry i) (cell_at run) p.from (p.to - p.from) ≡ sum_of_products (m.entry i) (cell_at run) s.from (s.to - s.from)
+skipped m run i p a s k f z et ef =
+    total_inside (λ j. times (m.entry i j) (cell_at run j)) p.from p.to s.from s.to (omega (arith, et, ef, z.order, p.order)) s.order (omega (arith, et))
+    (λ j l u. zero_term (m.entry i j) (cell_at run j) (z.before j (omega (arith, ef, l, u))) (f j l (omega (arith, et, ef, u))))
+    (λ j l u. zero_term (m.entry i j) (cell_at run j) (z.after j (omega (arith, et, l, u)) (omega (arith, u, k))) (f j (omega (arith, et, l, u)) u))
 
 pub lacked : (m : Matrix) (run : List Record) (i from n : ℕ) → Lacking run from (from + n) → sum_of_products (m.entry i) (cell_at run) from n ≡ empty
 lacked m run i from n l = total_empty (λ j. times (m.entry i j) (cell_at run j)) from n l.place l.least l.most

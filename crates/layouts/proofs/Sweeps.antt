@@ -1,14 +1,18 @@
 -- What a sweep over the columns leaves: the sums as a list, and the sums that no column reaches. Assumes nothing.
-use Rattle.std.proofs.Common.{◌≡◌, ℕ, ◌+◌, ◌<◌, ◌≤◌, List, map, length, get_or, sym, ap, ◌∙◌, add-one, arith}
+use Rattle.std.proofs.Common.{◌≡◌, ℕ, ◌+◌, ◌-◌, ◌<◌, ◌≤◌, List, ◌++◌, map, length, get_or, take, replicate, sym, ap, ◌∙◌, false, ⊎_elim, add-one, arith}
+use Rattle.std.proofs.lemmas.Bool.{cases_lt, false≢true}
 use Rattle.std.specs.List.{range_with_len}
 use Rattle.std.proofs.lemmas.List.FromFn.{fill_by_all}
-use Rattle.std.proofs.lemmas.List.{get_or-map, length-map}
+use Rattle.std.proofs.Math.ListN.{get_or-append}
+use Rattle.std.proofs.lemmas.List.{get_or-map, length-map, get_or-take, get_or-replicate, get_or-append_right, get_or_default, get_or_past, length-take, length-take-le, length-replicate}
 use Rattle.arithmetic.specs.Values.{Value, empty, plus, times, total}
 use Rattle.arithmetic.proofs.Totals.{total_empty}
+use Rattle.cells.specs.declared.cell.Record.{Record}
 use Rattle.cells.specs.declared.cell.Total.{Total}
 use Rattle.cells.specs.declared.cell.Total.TheVariants.{Empty}
-use Rattle.cells.specs.Cells.{total_value}
+use Rattle.cells.specs.Cells.{total_value, blank, read_as, cell_at}
 use Rattle.cells.specs.Formulas.{sum_of_products}
+use Rattle.layouts.specs.Filled.{is_filled, Filled}
 use Rattle.layouts.specs.Matrix.{Matrix, Sound}
 
 -- sums that are right at each place are right as a list
@@ -16,6 +20,27 @@ pub all_sums : (f : ℕ → Value) (sums : List Total) (n : ℕ) → length sums
 all_sums f sums n e h =
     fill_by_all f (map total_value sums) n empty (length-map sums total_value ∙ e)
     (λ k l. get_or-map total_value sums k Empty empty (omega (arith, e, l)) ∙ h k l)
+
+-- filled cells stand in the run: past its end every cell is empty
+pub filled_inside : (run : List Record) (n : ℕ) → Filled run 0 n → n ≤ length run
+filled_inside run n f =
+    let past : is_filled (cell_at run (length run)) ≡ false = ap (λ (r : Record). is_filled (read_as r)) (get_or_past run (length run) blank (omega arith)) in
+    ⊎_elim (λ (b : length run < n). absurd (false≢true (sym past ∙ f (length run) (omega arith) b))) (λ (b : n ≤ length run). b) (cases_lt (length run) n)
+
+-- what is read of the first n cells of a run
+pub read_first : (run : List Record) (n j : ℕ) (d : Record) (v : Value) → j < length (take n run) → v ≡ read_as (get_or (take n run) j d) → v ≡ cell_at run j
+read_first run n j d v h e = e ∙ ap read_as (get_or-take n run j d (omega (arith, h, length-take n run)) ∙ get_or_default run j d blank (omega (arith, h, length-take n run)))
+
+-- what a list keeps whose end is written anew from r on, and what stands in that end once it is filled
+pub end_kept : (s end : List Total) (r k : ℕ) → r ≤ length s → k < r → get_or (take r s ++ end) k Empty ≡ get_or s k Empty
+end_kept s end r k h b = get_or-append (take r s) end Empty k (omega (arith, length-take-le r s h)) ∙ get_or-take r s k Empty b
+
+pub end_filled : (s f past : List Total) (r n k : ℕ) → r + n ≡ length s → f ≡ replicate n Empty → r ≤ k → k < length s → get_or (take r s ++ (f ++ past)) k Empty ≡ Empty
+end_filled s f past r n k h e b l =
+    let here : k - r < n = omega arith in
+    get_or-append_right (take r s) (f ++ past) r k Empty (length-take-le r s (omega arith)) b
+    ∙ get_or-append f past Empty (k - r) (omega (arith, here, ap length e, length-replicate {A = Total} n Empty))
+    ∙ ap (λ (l : List Total). get_or l (k - r) Empty) e ∙ get_or-replicate n (k - r) Empty Empty here
 
 -- a row outside the shape of a matrix that has columns
 pub outside_empty : (m : Matrix) (x : ℕ → Value) (i : ℕ) → Sound m → m.rows ≤ i → 0 < m.columns → sum_of_products (m.entry i) x 0 m.columns ≡ empty

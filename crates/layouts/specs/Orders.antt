@@ -1,5 +1,5 @@
 -- The order in which the rows of a triangular system are worked: rising for a lower triangle, falling for an upper one.
-use Rattle.std.specs.Prelude.{ℕ, ◌-◌, cond, List, [], ◌∷◌, map, Some, None, Option}
+use Rattle.std.specs.Prelude.{ℕ, ◌-◌, List, map, find, Option}
 use Rattle.std.specs.List.{range_with_len}
 use Rattle.cells.specs.Quotients.{zero_in}
 use Rattle.layouts.specs.declared.side.Side.{Side}
@@ -17,5 +17,4 @@ rows_in_order side n = map (row_at side n) (range_with_len 0 n)
 
 -- the first of the rows whose diagonal entry is not empty and holds 0
 abbrev pub first_zero : Matrix → List ℕ → Option ℕ
-first_zero m [] = None
-first_zero m (i ∷ is) = cond (zero_in (m.entry i i)) (Some i) (first_zero m is)
+first_zero m = find (λ i. zero_in (m.entry i i))

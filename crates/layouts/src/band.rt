@@ -1,13 +1,12 @@
 // Band storage: of each column only the places near the diagonal.
 ghost use Rattle.std.specs.Prelude.{◌≡◌, ◌+◌, ◌^◌, ◌<◌, ◌≤◌};
-ghost use Rattle.layouts.specs.Refusals.{Checked};
 ghost use Rattle.layouts.specs.Stored.{band as stored, band_place, band_fit, band_sound};
 
-use crate::figures::{checked, has_room, zero};
+use crate::entries::zero;
+use crate::figures::{Figures, has_room};
 use crate::layout::Layout;
-use crate::refusal::LayoutRefusal;
-use crate::span::Span;
-use cells::cell::{Cell, Record};
+use crate::lines::{all, near};
+use cells::cell::{Cell, Places, Record};
 use cells::reading::read;
 
 // Entry (i, j), where i is at most `below` below j and at most `above` above it, is the record at above + i − j + j·stride;
@@ -33,23 +32,16 @@ fn place(above: usize, stride: usize, row: usize, column: usize) -> usize
     above + row - column + column * stride
 }
 
-impl Band<'_> {
-    fn is_fit(&self) -> bool
-        ensures { result ≡ band_fit self.now.run.now self.now.rows self.now.columns self.now.below self.now.above self.now.stride }
-    {
+impl Figures for Band<'_> {
+    ghost fit = { λ d. band_fit d.run.now d.rows d.columns d.below d.above d.stride };
+
+    fn is_fit(&self) -> bool {
         self.rows <= 1024
             && self.columns <= 1024
             && self.below <= 1023
             && self.above <= 1023
             && self.below + self.above + 1 <= self.stride
             && has_room(self.stride, self.columns, self.run.len())
-    }
-
-    // Refused where the figures are unfit.
-    pub fn check(&self) -> Result<(), LayoutRefusal>
-        ensures { Checked (band_fit self.now.run.now self.now.rows self.now.columns self.now.below self.now.above self.now.stride) result }
-    {
-        checked(self.is_fit())
     }
 }
 
@@ -81,32 +73,19 @@ impl Layout for Band<'_> {
         }
     }
 
-    fn across(&self, row: usize) -> Span {
-        let columns = self.columns();
+    fn across(&self, row: usize) -> Places {
         if row < self.rows() {
-            let to = columns.min(row + self.above + 1);
-            Span {
-                from: to.min(row.saturating_sub(self.below)),
-                to,
-            }
+            near(row, self.below, self.above, self.columns())
         } else {
-            Span {
-                from: 0,
-                to: columns,
-            }
+            all(self.columns())
         }
     }
 
-    fn down(&self, column: usize) -> Span {
-        let rows = self.rows();
+    fn down(&self, column: usize) -> Places {
         if column < self.columns() {
-            let to = rows.min(column + self.below + 1);
-            Span {
-                from: to.min(column.saturating_sub(self.above)),
-                to,
-            }
+            near(column, self.above, self.below, self.rows())
         } else {
-            Span { from: 0, to: rows }
+            all(self.rows())
         }
     }
 }

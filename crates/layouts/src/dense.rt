@@ -1,11 +1,9 @@
 // Dense storage: all of a matrix, column after column.
 ghost use Rattle.std.specs.Prelude.{◌≡◌, ◌^◌, ◌<◌};
-ghost use Rattle.layouts.specs.Refusals.{Checked};
 ghost use Rattle.layouts.specs.Stored.{dense as stored, dense_place, dense_fit, dense_sound};
 
-use crate::figures::{checked, has_room};
+use crate::figures::{Figures, has_room};
 use crate::layout::Layout;
-use crate::refusal::LayoutRefusal;
 use cells::cell::{Cell, Record};
 use cells::reading::read;
 
@@ -26,22 +24,15 @@ fn place(stride: usize, row: usize, column: usize) -> usize
     column * stride + row
 }
 
-impl Dense<'_> {
-    fn is_fit(&self) -> bool
-        ensures { result ≡ dense_fit self.now.run.now self.now.rows self.now.columns self.now.stride }
-    {
+impl Figures for Dense<'_> {
+    ghost fit = { λ d. dense_fit d.run.now d.rows d.columns d.stride };
+
+    fn is_fit(&self) -> bool {
         self.rows <= 1024
             && self.columns <= 1024
             && 1 <= self.stride
             && self.rows <= self.stride
             && has_room(self.stride, self.columns, self.run.len())
-    }
-
-    // Refused where the figures are unfit.
-    pub fn check(&self) -> Result<(), LayoutRefusal>
-        ensures { Checked (dense_fit self.now.run.now self.now.rows self.now.columns self.now.stride) result }
-    {
-        checked(self.is_fit())
     }
 }
 

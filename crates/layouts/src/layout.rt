@@ -7,16 +7,12 @@ ghost use Rattle.layouts.specs.Sides.{IsTriangle};
 ghost use Rattle.layouts.specs.Spans.{ZeroAcross, ZeroDown};
 
 use crate::side::Side;
-use crate::span::Span;
-use cells::cell::Cell;
+use cells::cell::{Cell, Places};
 
 // A matrix of cells, however it is stored.
 pub trait Layout {
     // the matrix that the layout means
     ghost meaning: { Self → Matrix };
-
-    // at most 1,024 rows and columns, cells as entries, empty outside
-    ghost sound: { (l : Self) → Sound (meaning l) };
 
     fn rows(&self) -> usize
         ensures { result ≡ (meaning self.now).rows };
@@ -29,26 +25,29 @@ pub trait Layout {
         ensures { cell_value result ≡ (meaning self.now).entry row column };
 
     // Columns of a row outside which the row is [0, 0]. Which of them is answered is free; the narrower, the faster.
-    fn across(&self, row: usize) -> Span
+    fn across(&self, row: usize) -> Places
         ensures { ZeroAcross (meaning self.now) row result }
     {
         let _ = row;
-        Span {
+        Places {
             from: 0,
             to: self.columns(),
         }
     }
 
     // Rows of a column outside which the column is [0, 0]. Which of them is answered is free; the narrower, the faster.
-    fn down(&self, column: usize) -> Span
+    fn down(&self, column: usize) -> Places
         ensures { ZeroDown (meaning self.now) column result }
     {
         let _ = column;
-        Span {
+        Places {
             from: 0,
             to: self.rows(),
         }
     }
+
+    // a law: at most 1,024 rows and columns, cells as entries, empty outside
+    ghost sound: { (l : Self) → Sound (meaning l) };
 }
 
 // A square matrix with [0, 0] at every place on the other side of the diagonal.

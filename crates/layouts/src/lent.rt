@@ -1,8 +1,7 @@
 // A layout that is lent is a layout, so a layer can stand over a reference as well as over a value.
 use crate::layout::{Layout, Triangular};
 use crate::side::Side;
-use crate::span::Span;
-use cells::cell::Cell;
+use cells::cell::{Cell, Places};
 
 impl<L: Layout> Layout for &L {
     ghost meaning = { λ l. L.Layout.meaning l.now };
@@ -21,11 +20,11 @@ impl<L: Layout> Layout for &L {
         (**self).entry(row, column)
     }
 
-    fn across(&self, row: usize) -> Span {
+    fn across(&self, row: usize) -> Places {
         (**self).across(row)
     }
 
-    fn down(&self, column: usize) -> Span {
+    fn down(&self, column: usize) -> Places {
         (**self).down(column)
     }
 }

@@ -3,17 +3,18 @@
 
 pub mod band;
 pub mod dense;
-mod figures;
+mod entries;
+pub mod figures;
 pub mod laws;
 pub mod layout;
 pub mod lent;
+mod lines;
 mod operands;
 pub mod packed;
 pub mod product;
 pub mod refusal;
 pub mod side;
 pub mod solve;
-pub mod span;
 pub mod sweep;
 pub mod symmetric;
 pub mod transposed;

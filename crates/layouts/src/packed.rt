@@ -1,14 +1,13 @@
 // Packed storage: the columns of one triangle, one after the other with no gaps.
 ghost use Rattle.std.specs.Prelude.{◌≡◌, ◌<◌, ◌≤◌};
-ghost use Rattle.layouts.specs.Refusals.{Checked};
 ghost use Rattle.layouts.specs.Stored.{packed as stored, packed_fit, packed_place, packed_sound};
 
-use crate::figures::{checked, is_on, zero};
+use crate::entries::{is_on, zero};
+use crate::figures::Figures;
 use crate::layout::{Layout, Triangular};
-use crate::refusal::LayoutRefusal;
+use crate::lines::half;
 use crate::side::Side;
-use crate::span::Span;
-use cells::cell::{Cell, Record};
+use cells::cell::{Cell, Places, Record};
 use cells::reading::read;
 
 // A triangle with n rows and columns: entry (i, j) of a lower one is the record at i + j·(2n − j − 1)/2, of an upper one at
@@ -32,18 +31,11 @@ fn place(side: Side, n: usize, row: usize, column: usize) -> usize
     }
 }
 
-impl Packed<'_> {
-    fn is_fit(&self) -> bool
-        ensures { result ≡ packed_fit self.now.run.now self.now.n }
-    {
-        self.n <= 1024 && self.run.len() == self.n * (self.n + 1) / 2
-    }
+impl Figures for Packed<'_> {
+    ghost fit = { λ d. packed_fit d.run.now d.n };
 
-    // Refused where the figures are unfit.
-    pub fn check(&self) -> Result<(), LayoutRefusal>
-        ensures { Checked (packed_fit self.now.run.now self.now.n) result }
-    {
-        checked(self.is_fit())
+    fn is_fit(&self) -> bool {
+        self.n <= 1024 && self.run.len() == self.n * (self.n + 1) / 2
     }
 }
 
@@ -75,43 +67,12 @@ impl Layout for Packed<'_> {
         }
     }
 
-    fn across(&self, row: usize) -> Span {
-        let columns = self.columns();
-        if row < columns {
-            match self.side {
-                Side::Lower => Span {
-                    from: 0,
-                    to: row + 1,
-                },
-                Side::Upper => Span {
-                    from: row,
-                    to: columns,
-                },
-            }
-        } else {
-            Span {
-                from: 0,
-                to: columns,
-            }
-        }
+    fn across(&self, row: usize) -> Places {
+        half(self.side, row, self.columns())
     }
 
-    fn down(&self, column: usize) -> Span {
-        let rows = self.rows();
-        if column < rows {
-            match self.side {
-                Side::Lower => Span {
-                    from: column,
-                    to: rows,
-                },
-                Side::Upper => Span {
-                    from: 0,
-                    to: column + 1,
-                },
-            }
-        } else {
-            Span { from: 0, to: rows }
-        }
+    fn down(&self, column: usize) -> Places {
+        half(self.side.opposite(), column, self.rows())
     }
 }
 

@@ -1,16 +1,13 @@
 // The row formula of a triangular solve, the order in which rows are worked, and the test for a diagonal that holds 0.
-// Every operand counts, also one that stands under a structural zero: whether all are filled is tested first.
-ghost use Rattle.std.specs.Prelude.{◌≡◌, ◌-◌, ◌<◌, ◌≤◌, true, false};
+ghost use Rattle.std.specs.Prelude.{◌≡◌, ◌<◌};
 ghost use Rattle.cells.specs.Cells.{cell_value, total_value, cell_at};
-ghost use Rattle.cells.specs.Formulas.{sum_of_products};
-ghost use Rattle.layouts.specs.Filled.{Filled, Lacking};
 ghost use Rattle.layouts.specs.Orders.{row_at, rows_in_order, first_zero};
 ghost use Rattle.layouts.specs.Rows.{solved_sum, solve_at};
 
 use crate::layout::{Layout, Triangular};
-use crate::product::filled_sum;
+use crate::operands::RowTimes;
 use crate::side::Side;
-use cells::cell::{Cell, EMPTY, Record, Total};
+use cells::cell::{Cell, EMPTY, Places, Record, Total};
 use cells::dividing::{holds_zero, quotient_cell};
 use cells::fault::{CellFault, Placed};
 use cells::reading::cell_at;
@@ -33,39 +30,9 @@ pub fn first_zero<T: Triangular>(layout: &T) -> Option<usize>
 {
     let n = layout.rows();
     let side = layout.side();
-    for step in 0..n {
-        let row = row_at(side, n, step);
-        if holds_zero(layout.entry(row, row)) {
-            return Some(row);
-        }
-    }
-    None
-}
-
-fn all_filled(run: &[Record], from: usize, to: usize) -> bool
-    requires { from ≤ to }
-    ensures yes { result ≡ true → Filled run.now from to }
-    ensures no { result ≡ false → Lacking run.now from to }
-{
-    for place in from..to {
-        if let Cell::Empty = cell_at(run, place) {
-            return false;
-        }
-    }
-    true
-}
-
-// Σ over the columns from `from` to before `to`, unrounded.
-fn part_sum<L: Layout>(layout: &L, row: usize, from: usize, to: usize, run: &[Record]) -> Total
-    requires order { from ≤ to }
-    requires inside { to ≤ (L.Layout.meaning layout.now).columns }
-    ensures { total_value result ≡ sum_of_products ((L.Layout.meaning layout.now).entry row) (cell_at run.now) from (to - from) }
-{
-    if all_filled(run, from, to) {
-        filled_sum(layout, row, from, to, run)
-    } else {
-        Total::Empty
-    }
+    (0..n)
+        .map(|step| row_at(side, n, step))
+        .find(|row| holds_zero(layout.entry(*row, *row)))
 }
 
 // Σ T_ij·z_j over the rows that are solved before the row, unrounded.
@@ -73,10 +40,15 @@ fn solved_sum<T: Triangular>(layout: &T, row: usize, column: &[Record]) -> Total
     requires { row < (T.Layout.meaning layout.now).rows }
     ensures { total_value result ≡ solved_sum (T.Triangular.half layout.now) (T.Layout.meaning layout.now) (cell_at column.now) row }
 {
-    match layout.side() {
-        Side::Lower => part_sum(layout, row, 0, row, column),
-        Side::Upper => part_sum(layout, row, row + 1, layout.rows(), column),
-    }
+    let solved = match layout.side() {
+        Side::Lower => Places { from: 0, to: row },
+        Side::Upper => Places {
+            from: row + 1,
+            to: layout.rows(),
+        },
+    };
+    let run = column;
+    RowTimes { layout, row, run }.sum(solved)
 }
 
 // (alpha·x_i − Σ T_ij·z_j)/T_ii at a row of a column that holds z_j at the rows solved before, and x elsewhere. The cell is

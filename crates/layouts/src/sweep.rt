@@ -11,7 +11,7 @@ ghost use Rattle.layouts.specs.Rows.{row_sum};
 use crate::layout::Layout;
 use crate::vector::Vector;
 use cells::cell::{Cell, Total, Totals};
-use cells::reading::cell_at;
+use cells::reading::read;
 use cells::totals::add_product;
 
 // The sum of no terms.
@@ -24,17 +24,7 @@ fn no_terms() -> Total
     })
 }
 
-// Writes a total to each place from `from` on.
-fn fill_from(sums: &mut [Total], from: usize, total: Total)
-    ensures before { (k : ℕ) → k < from → slice_index_or sums.new k Empty ≡ slice_index_or sums.old k Empty }
-    ensures behind { (k : ℕ) → from ≤ k → k < length sums.old → slice_index_or sums.new k Empty ≡ total }
-{
-    for place in from..sums.len() {
-        sums[place] = total;
-    }
-}
-
-// Adds a column of the layout times a filled cell x, reading only the span of the column.
+// Adds a column of the layout times a filled cell x, reading only the places outside which the column is [0, 0].
 fn add_column<L: Layout>(layout: &L, column: usize, x: Cell, sums: &mut [Total])
     requires filled { is_filled (cell_value x) ≡ true }
     requires small { (k : ℕ) → k < length sums.old → Small 17574738002943 (total_value (slice_index_or sums.old k Empty)) }
@@ -45,8 +35,10 @@ fn add_column<L: Layout>(layout: &L, column: usize, x: Cell, sums: &mut [Total])
     let Cell::Bounds(factor) = x else {
         return;
     };
-    let span = layout.down(column);
-    for row in span.from..span.to.min(sums.len()) {
+    let places = layout.down(column);
+    // the rows are counted: a chain over `iter_mut` with `take` and `skip` tells nothing of the sums that it leaves, and a part
+    // of the sums has its own count, from 0 on
+    for row in places.from..places.to.min(sums.len()) {
         sums[row] = add_product(sums[row], layout.entry(row, column), Cell::Bounds(factor));
     }
 }
@@ -57,14 +49,15 @@ pub fn product_sums<L: Layout>(layout: &L, xs: Vector<'_>, sums: &mut [Total])
 {
     let columns = layout.columns();
     if xs.filled < columns {
-        fill_from(sums, 0, Total::Empty);
+        sums.fill(Total::Empty);
         return;
     }
-    fill_from(sums, 0, no_terms());
-    for column in 0..columns {
-        add_column(layout, column, cell_at(xs.run, column), sums);
+    sums.fill(no_terms());
+    for (column, record) in xs.run[..columns].iter().enumerate() {
+        add_column(layout, column, read(*record), sums);
     }
     if columns > 0 {
-        fill_from(sums, layout.rows(), Total::Empty);
+        let rows = layout.rows().min(sums.len());
+        sums[rows..].fill(Total::Empty);
     }
 }

@@ -1,12 +1,11 @@
 // A symmetric matrix of which one triangle is stored: the other is read from its mirror image.
-ghost use Rattle.std.specs.Prelude.{◌≡◌, ◌+◌, ◌<◌, min, max};
+ghost use Rattle.std.specs.Prelude.{◌≡◌, ◌+◌, ◌<◌, ◌≤◌, min, max};
 ghost use Rattle.layouts.specs.Layers.{symmetric, symmetric_sound};
 
-use crate::figures::{smaller, with_place};
 use crate::layout::Layout;
+use crate::lines::{all, smaller};
 use crate::side::Side;
-use crate::span::Span;
-use cells::cell::Cell;
+use cells::cell::{Cell, Places};
 
 // It is square by the smaller side of the layout below, of which it reads the named triangle alone.
 #[derive(Drop)]
@@ -15,18 +14,16 @@ pub struct Symmetric<L> {
     pub side: Side,
 }
 
-// The span of a row that has its places before the diagonal from one span and those behind it from another.
-fn around(row: usize, n: usize, before: Span, after: Span) -> Span
-    requires { row < 1024 }
+// The places of a row that has its places before the diagonal from some and those behind it from others.
+fn around(row: usize, n: usize, before: Places, after: Places) -> Places
+    requires row { row < n }
+    requires n { n ≤ 1024 }
     ensures { (result.from ≡ min row before.from) × (result.to ≡ max (row + 1) (min n after.to)) }
 {
-    with_place(
-        Span {
-            from: before.from,
-            to: n.min(after.to),
-        },
-        row,
-    )
+    Places {
+        from: row.min(before.from),
+        to: n.min(after.to).max(row + 1),
+    }
 }
 
 impl<L: Layout> Layout for Symmetric<L> {
@@ -54,7 +51,7 @@ impl<L: Layout> Layout for Symmetric<L> {
         }
     }
 
-    fn across(&self, row: usize) -> Span {
+    fn across(&self, row: usize) -> Places {
         let n = smaller(&self.below);
         if row < n {
             match self.side {
@@ -62,12 +59,12 @@ impl<L: Layout> Layout for Symmetric<L> {
                 Side::Upper => around(row, n, self.below.down(row), self.below.across(row)),
             }
         } else {
-            Span { from: 0, to: n }
+            all(n)
         }
     }
 
     // column j is row j
-    fn down(&self, column: usize) -> Span {
+    fn down(&self, column: usize) -> Places {
         self.across(column)
     }
 }

@@ -4,8 +4,7 @@ ghost use Rattle.layouts.specs.Sides.{opposite};
 
 use crate::layout::{Layout, Triangular};
 use crate::side::Side;
-use crate::span::Span;
-use cells::cell::Cell;
+use cells::cell::{Cell, Places};
 
 #[derive(Drop)]
 pub struct Transposed<L> {
@@ -29,11 +28,11 @@ impl<L: Layout> Layout for Transposed<L> {
         self.below.entry(column, row)
     }
 
-    fn across(&self, row: usize) -> Span {
+    fn across(&self, row: usize) -> Places {
         self.below.down(row)
     }
 
-    fn down(&self, column: usize) -> Span {
+    fn down(&self, column: usize) -> Places {
         self.below.across(column)
     }
 }
@@ -42,9 +41,6 @@ impl<T: Triangular> Triangular for Transposed<T> {
     ghost half = { λ t. opposite (T.Triangular.half t.below) };
 
     fn side(&self) -> Side {
-        match self.below.side() {
-            Side::Lower => Side::Upper,
-            Side::Upper => Side::Lower,
-        }
+        self.below.side().opposite()
     }
 }

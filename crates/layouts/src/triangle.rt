@@ -1,17 +1,33 @@
 // One triangle of a layout, with [0, 0] on the other side of the diagonal.
+ghost use Rattle.std.specs.Prelude.{◌≡◌, ◌<◌, ◌≤◌, min, max};
 ghost use Rattle.layouts.specs.Layers.{triangle, triangle_sound};
+ghost use Rattle.layouts.specs.Spans.{half_from, half_to};
 
-use crate::figures::{clipped, is_on, smaller, zero};
+use crate::entries::{is_on, zero};
 use crate::layout::{Layout, Triangular};
+use crate::lines::{half, overlap, smaller};
 use crate::side::Side;
-use crate::span::Span;
-use cells::cell::Cell;
+use cells::cell::{Cell, Places};
 
 // It is square by the smaller side of the layout below, of which it reads the named triangle alone.
 #[derive(Drop)]
 pub struct Triangle<L> {
     pub below: L,
     pub side: Side,
+}
+
+// Of the n places of a line, those below that are on a side; all where the line has no place on the diagonal.
+fn line(side: Side, diagonal: usize, n: usize, below: Places) -> Places
+    requires { n ≤ 1024 }
+    ensures all { n ≤ diagonal → (result.from ≡ 0) × (result.to ≡ n) }
+    ensures kept { diagonal < n → (result.to ≡ min (half_to side diagonal n) (max (half_from side diagonal) below.to)) × (result.from ≡ min result.to (max (half_from side diagonal) below.from)) }
+{
+    let places = half(side, diagonal, n);
+    if diagonal < n {
+        overlap(below, places)
+    } else {
+        places
+    }
 }
 
 impl<L: Layout> Layout for Triangle<L> {
@@ -40,30 +56,17 @@ impl<L: Layout> Layout for Triangle<L> {
         }
     }
 
-    fn across(&self, row: usize) -> Span {
-        let n = smaller(&self.below);
-        if row < n {
-            let below = self.below.across(row);
-            match self.side {
-                Side::Lower => clipped(below, 0, row + 1),
-                Side::Upper => clipped(below, row, n),
-            }
-        } else {
-            Span { from: 0, to: n }
-        }
+    fn across(&self, row: usize) -> Places {
+        line(self.side, row, smaller(&self.below), self.below.across(row))
     }
 
-    fn down(&self, column: usize) -> Span {
-        let n = smaller(&self.below);
-        if column < n {
-            let below = self.below.down(column);
-            match self.side {
-                Side::Lower => clipped(below, column, n),
-                Side::Upper => clipped(below, 0, column + 1),
-            }
-        } else {
-            Span { from: 0, to: n }
-        }
+    fn down(&self, column: usize) -> Places {
+        line(
+            self.side.opposite(),
+            column,
+            smaller(&self.below),
+            self.below.down(column),
+        )
     }
 }
 

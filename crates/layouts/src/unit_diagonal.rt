@@ -1,16 +1,14 @@
 // A triangular layout with exactly one on the diagonal, whatever stands there below.
-ghost use Rattle.std.specs.Prelude.{◌≡◌, true};
+ghost use Rattle.std.specs.Prelude.{◌≡◌, ◌+◌, ◌<◌, ◌≤◌, min, max, true, false};
 ghost use Rattle.arithmetic.specs.Values.{bounds};
 ghost use Rattle.cells.specs.Cells.{cell_value};
-ghost use Rattle.layouts.specs.Layers.{unit_fit, unit_diagonal, unit_sound};
-ghost use Rattle.layouts.specs.Refusals.{Checked};
+ghost use Rattle.layouts.specs.Layers.{smaller as smaller-of, unit_fit, unit_diagonal, unit_sound};
 
-use crate::figures::{checked, with_place};
+use crate::figures::Figures;
 use crate::layout::{Layout, Triangular};
-use crate::refusal::LayoutRefusal;
+use crate::lines::{all, smaller, with_place};
 use crate::side::Side;
-use crate::span::Span;
-use cells::cell::{Cell, Interval};
+use cells::cell::{Cell, Interval, Places};
 
 // One is [unit, unit], `unit` being the number of steps to one unit, from 1 to 100,000; another number means the 0 by 0
 // matrix.
@@ -18,12 +16,6 @@ use cells::cell::{Cell, Interval};
 pub struct UnitDiagonal<T> {
     pub below: T,
     pub unit: i64,
-}
-
-fn is_fit(unit: i64) -> bool
-    ensures { result ≡ unit_fit unit }
-{
-    1 <= unit && unit <= 100_000
 }
 
 fn one(unit: i64) -> Cell
@@ -37,12 +29,29 @@ fn one(unit: i64) -> Cell
     })
 }
 
-impl<T> UnitDiagonal<T> {
-    // Refused where the unit is unfit; what is below has a check of its own.
-    pub fn check(&self) -> Result<(), LayoutRefusal>
-        ensures { Checked (unit_fit self.now.unit) result }
+// The unit is its one figure; what is below has a check of its own.
+impl<T> Figures for UnitDiagonal<T> {
+    ghost fit = { λ t. unit_fit t.unit };
+
+    fn is_fit(&self) -> bool {
+        1 <= self.unit && self.unit <= 100_000
+    }
+}
+
+impl<T: Triangular> UnitDiagonal<T> {
+    // The places of a line: those of the line below, and the one on the diagonal if it has one.
+    fn line(&self, diagonal: usize, below: Places) -> Places
+        ensures unfit { unit_fit self.now.unit ≡ false → (result.from ≡ 0) × (result.to ≡ 0) }
+        ensures below { unit_fit self.now.unit ≡ true → smaller-of (T.Layout.meaning self.now.below) ≤ diagonal → (result.from ≡ below.from) × (result.to ≡ below.to) }
+        ensures more { unit_fit self.now.unit ≡ true → diagonal < smaller-of (T.Layout.meaning self.now.below) → (result.from ≡ min diagonal below.from) × (result.to ≡ max (diagonal + 1) below.to) }
     {
-        checked(is_fit(self.unit))
+        if !self.is_fit() {
+            all(0)
+        } else if diagonal < smaller(&self.below) {
+            with_place(below, diagonal)
+        } else {
+            below
+        }
     }
 }
 
@@ -52,15 +61,11 @@ impl<T: Triangular> Layout for UnitDiagonal<T> {
     ghost sound = { λ t. unit_sound t.unit (T.Layout.meaning t.below) (T.Layout.sound t.below) };
 
     fn rows(&self) -> usize {
-        if is_fit(self.unit) {
-            self.below.rows()
-        } else {
-            0
-        }
+        if self.is_fit() { self.below.rows() } else { 0 }
     }
 
     fn columns(&self) -> usize {
-        if is_fit(self.unit) {
+        if self.is_fit() {
             self.below.columns()
         } else {
             0
@@ -68,7 +73,7 @@ impl<T: Triangular> Layout for UnitDiagonal<T> {
     }
 
     fn entry(&self, row: usize, column: usize) -> Cell {
-        if !is_fit(self.unit) {
+        if !self.is_fit() {
             return Cell::Empty;
         }
         if row < self.below.rows() && column < self.below.columns() {
@@ -82,28 +87,12 @@ impl<T: Triangular> Layout for UnitDiagonal<T> {
         }
     }
 
-    fn across(&self, row: usize) -> Span {
-        if !is_fit(self.unit) {
-            return Span { from: 0, to: 0 };
-        }
-        let below = self.below.across(row);
-        if row < self.below.rows() && row < self.below.columns() {
-            with_place(below, row)
-        } else {
-            below
-        }
+    fn across(&self, row: usize) -> Places {
+        self.line(row, self.below.across(row))
     }
 
-    fn down(&self, column: usize) -> Span {
-        if !is_fit(self.unit) {
-            return Span { from: 0, to: 0 };
-        }
-        let below = self.below.down(column);
-        if column < self.below.rows() && column < self.below.columns() {
-            with_place(below, column)
-        } else {
-            below
-        }
+    fn down(&self, column: usize) -> Places {
+        self.line(column, self.below.down(column))
     }
 }
 

@@ -3,8 +3,9 @@ ghost use Rattle.std.specs.Prelude.{◌≡◌, false};
 ghost use Rattle.cells.specs.Cells.{cell_at};
 ghost use Rattle.layouts.specs.Filled.{is_filled, Filled};
 
-use cells::cell::{Cell, Record};
-use cells::reading::cell_at;
+use crate::entries::is_filled;
+use cells::cell::Record;
+use cells::reading::read;
 
 // Its first `filled` cells are not empty, and the next one is: past the end of the run every cell is.
 #[derive(Clone, Copy)]
@@ -19,14 +20,10 @@ impl<'a> Vector<'a> {
     pub fn of(run: &'a [Record]) -> Vector<'a>
         ensures { result.run.now ≡ run.now }
     {
-        for place in 0..run.len() {
-            if let Cell::Empty = cell_at(run, place) {
-                return Vector { run, filled: place };
-            }
-        }
+        let first_empty = run.iter().position(|record| !is_filled(read(*record)));
         Vector {
             run,
-            filled: run.len(),
+            filled: first_empty.unwrap_or(run.len()),
         }
     }
 }

@@ -1,5 +1,5 @@
-use Rattle.std.proofs.Common.{◌≡◌, ℕ, ◌+◌, ◌<◌, ◌≤◌, List, length, get_or, sym, ap, ◌∙◌, subst, ⊎_elim, arith}
-use Rattle.std.proofs.lemmas.List.{get_or_read}
+use Rattle.std.proofs.Common.{◌≡◌, ◌≢◌, ℕ, ◌+◌, ◌<◌, ◌≤◌, List, length, get_or, set, sym, ap, ◌∙◌, subst, ⊎_elim, below_more, arith}
+use Rattle.std.proofs.lemmas.List.{get_or_read, get_or-set_same, get_or-set_other}
 use Rattle.std.proofs.lemmas.Bool.{cases_lt}
 use Rattle.arithmetic.specs.Values.{Value, plus, times, Small}
 use Rattle.arithmetic.proofs.Sizes.{small_more}
@@ -9,7 +9,6 @@ use Rattle.cells.specs.declared.cell.Total.{Total}
 use Rattle.cells.specs.declared.cell.Total.TheVariants.{Empty}
 use Rattle.cells.specs.Cells.{cell_value, total_value}
 use Rattle.layouts.proofs.Skips.{still}
-use Rattle.layouts.proofs.Steps.{one_more, kept_behind}
 use Rattle.layouts.proofs.sweep.add_column.Goals as goal
 
 -- what stood at the row before the call
@@ -29,22 +28,23 @@ loop-row-preserved g c =
     let j = c.args.column in let v = cell_value (Bounds c.in-Bounds.factor) in let new = c.add_product.result in
     let here : l.row < length l.sums = omega (arith, c.loop-row-test.true, c.min-row-end.ensures, l.auto.sums) in
     let before : x ≡ get_or was l.row Empty = old l.sums was l.row x here c.index-sums-row.is l.invariant.2 in
+    let Sized : Total → Total → Type 0 = λ w t. (n : ℕ) → Small n (total_value w) → Small (n + 17179607041) (total_value t) in
+    let kept : (k : ℕ) → k ≢ l.row → get_or (set l.sums l.row new) k Empty ≡ get_or l.sums k Empty = λ k n. get_or-set_other l.sums l.row k new Empty n in
+    let put : get_or (set l.sums l.row new) l.row Empty ≡ new = get_or-set_same l.sums l.row new Empty here in
     let is : total_value new ≡ plus (total_value (get_or was l.row Empty)) (times (m.entry l.row j) v) =
     c.add_product.ensures.is ∙ ap (λ (t : Total). plus (total_value t) (times (cell_value c.entry.result) v)) before ∙ ap (λ (e : Value). plus (total_value (get_or was l.row Empty)) (times e v)) c.entry.ensures in
-    let size : (n : ℕ) → Small n (total_value (get_or was l.row Empty)) → Small (n + 17179607041) (total_value new) =
-    λ n h. let P : Total → Type 0 = λ t. Small n (total_value t) in c.add_product.ensures.size n (subst P (sym before) h) in
-    let Is : ℕ → Total → Type 0 = λ k t. total_value t ≡ plus (total_value (get_or was k Empty)) (times (m.entry k j) v) in
-    let Sized : ℕ → Total → Type 0 = λ k t. (n : ℕ) → Small n (total_value (get_or was k Empty)) → Small (n + 17179607041) (total_value t) in (
-      λ k h. one_more Is l.sums 0 l.row new Empty here is (λ k a. l.invariant.0 k) k (omega arith) h,
-      λ k h. one_more Sized l.sums 0 l.row new Empty here size (λ k a. l.invariant.1 k) k (omega arith) h,
-      kept_behind l.sums was l.row new Empty l.invariant.2,
+    let size : Sized (get_or was l.row Empty) new =
+    let P : Total → Type 0 = λ t. Sized t new in subst P before c.add_product.ensures.size in (
+      below_more _ _ (λ k h. ap total_value (kept k (λ e. omega (arith, e))) ∙ l.invariant.0 k h) (ap total_value put ∙ is),
+      below_more _ _ (λ k h. subst (Sized (get_or was k Empty)) (sym (kept k (λ e. omega (arith, e)))) (l.invariant.1 k h)) (subst (Sized (get_or was l.row Empty)) (sym put) size),
+      λ k h. kept k (λ e. omega (arith, e)) ∙ l.invariant.2 k (omega arith),
     )
 
 pub returns : goal.returns
 returns g c =
-    let m = g.L.Layout.meaning c.args.layout.now in let l = c.loop-row in let was = c.args.sums.now in let z = c.down-span.ensures in
+    let m = g.L.Layout.meaning c.args.layout.now in let l = c.loop-row in let was = c.args.sums.now in let z = c.down-places.ensures in
     let j = c.args.column in let v = cell_value c.args.x in
-    let after : (k : ℕ) → k < length was → l.row ≤ k → c.down-span.result.to ≤ k = λ k h r. omega (arith, c.loop-row-test.false, c.min-row-end.ensures, h, r) in
+    let after : (k : ℕ) → k < length was → l.row ≤ k → c.down-places.result.to ≤ k = λ k h r. omega (arith, c.loop-row-test.false, c.min-row-end.ensures, h, r) in
     record {
       is = λ k h r. ⊎_elim (λ (b : k < l.row). l.invariant.0 k b ∙ ap (λ (x : Cell). plus (total_value (get_or was k Empty)) (times (m.entry k j) (cell_value x))) (sym c.in-Bounds.is))
           (λ (b : l.row ≤ k). ap total_value (l.invariant.2 k b) ∙ sym (still (total_value (get_or was k Empty)) (m.entry k j) v (z.after k (after k h b) r) c.requires.filled)) (cases_lt k l.row);

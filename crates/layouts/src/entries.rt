@@ -1,0 +1,31 @@
+// What the layouts share of entries: the cell [0, 0], which cells are filled, and which places are on a side.
+ghost use Rattle.std.specs.Prelude.{◌≡◌};
+ghost use Rattle.arithmetic.specs.Values.{zeros};
+ghost use Rattle.cells.specs.Cells.{cell_value};
+ghost use Rattle.layouts.specs.Filled.{is_filled};
+ghost use Rattle.layouts.specs.Sides.{on_side};
+
+use crate::side::Side;
+use cells::cell::{Cell, Interval};
+
+pub(crate) fn zero() -> Cell
+    ensures { cell_value result ≡ zeros }
+{
+    Cell::Bounds(Interval { lower: 0, upper: 0 })
+}
+
+pub(crate) fn is_filled(cell: Cell) -> bool
+    ensures { result ≡ is_filled (cell_value cell) }
+{
+    !matches!(cell, Cell::Empty)
+}
+
+// Whether a place is on the side or on the diagonal.
+pub(crate) fn is_on(side: Side, row: usize, column: usize) -> bool
+    ensures { result ≡ on_side side row column }
+{
+    match side {
+        Side::Lower => column <= row,
+        Side::Upper => row <= column,
+    }
+}
