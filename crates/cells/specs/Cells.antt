@@ -7,8 +7,15 @@ use Rattle.cells.specs.declared.cell.Extremes.{Extremes}
 use Rattle.cells.specs.declared.cell.Interval.{Interval}
 use Rattle.cells.specs.declared.cell.Record.{Record}
 
+-- cells and sums of products as the code has them
+abbrev pub Cell : Type 0
+Cell = Option Interval
+
+abbrev pub Total : Type 0
+Total = Option (Extremes 17591917609984)
+
 -- what a cell of the code stands for
-abbrev pub cell_value : Option Interval → Value
+abbrev pub cell_value : Cell → Value
 cell_value None = empty
 cell_value (Some i) = bounds i.lower i.upper
 
@@ -16,7 +23,7 @@ cell_value (Some i) = bounds i.lower i.upper
 abbrev pub extremes : {most : ℕ} → Extremes most → Value
 extremes e = bounds e.least e.greatest
 
-abbrev pub total_value : Option (Extremes 17591917609984) → Value
+abbrev pub total_value : Total → Value
 total_value None = empty
 total_value (Some t) = extremes t
 

@@ -1,5 +1,5 @@
 -- What a sweep over the columns leaves: the sums as a list, and the sums that no column reaches. Assumes nothing.
-use Rattle.std.proofs.Common.{◌≡◌, ℕ, ◌+◌, ◌-◌, ◌<◌, ◌≤◌, List, ◌++◌, map, length, get_or, take, replicate, sym, ap, ◌∙◌, false, ⊎_elim, add-one, arith}
+use Rattle.std.proofs.Common.{◌≡◌, ℕ, ◌+◌, ◌-◌, ◌<◌, ◌≤◌, List, ◌++◌, map, length, get_or, take, replicate, sym, ap, ◌∙◌, false, ⊎_elim, None, add-one, arith}
 use Rattle.std.proofs.lemmas.Bool.{cases_lt, false≢true}
 use Rattle.std.specs.List.{range_with_len}
 use Rattle.std.proofs.lemmas.List.FromFn.{fill_by_all}
@@ -8,18 +8,16 @@ use Rattle.std.proofs.lemmas.List.{get_or-map, length-map, get_or-take, get_or-r
 use Rattle.arithmetic.specs.Values.{Value, empty, plus, times, total}
 use Rattle.arithmetic.proofs.Totals.{total_empty}
 use Rattle.cells.specs.declared.cell.Record.{Record}
-use Rattle.cells.specs.declared.cell.Total.{Total}
-use Rattle.cells.specs.declared.cell.Total.TheVariants.{Empty}
-use Rattle.cells.specs.Cells.{total_value, blank, read_as, cell_at}
+use Rattle.cells.specs.Cells.{Total, total_value, blank, read_as, cell_at}
 use Rattle.cells.specs.Formulas.{sum_of_products}
 use Rattle.layouts.specs.Filled.{is_filled, Filled}
 use Rattle.layouts.specs.Matrix.{Matrix, Sound}
 
 -- sums that are right at each place are right as a list
-pub all_sums : (f : ℕ → Value) (sums : List Total) (n : ℕ) → length sums ≡ n → ((k : ℕ) → k < n → total_value (get_or sums k Empty) ≡ f k) → map total_value sums ≡ map f (range_with_len 0 n)
+pub all_sums : (f : ℕ → Value) (sums : List Total) (n : ℕ) → length sums ≡ n → ((k : ℕ) → k < n → total_value (get_or sums k None) ≡ f k) → map total_value sums ≡ map f (range_with_len 0 n)
 all_sums f sums n e h =
     fill_by_all f (map total_value sums) n empty (length-map sums total_value ∙ e)
-    (λ k l. get_or-map total_value sums k Empty empty (omega (arith, e, l)) ∙ h k l)
+    (λ k l. get_or-map total_value sums k None empty (omega (arith, e, l)) ∙ h k l)
 
 -- filled cells stand in the run: past its end every cell is empty
 pub filled_inside : (run : List Record) (n : ℕ) → Filled run 0 n → n ≤ length run
@@ -32,15 +30,15 @@ pub read_first : (run : List Record) (n j : ℕ) (d : Record) (v : Value) → j 
 read_first run n j d v h e = e ∙ ap read_as (get_or-take n run j d (omega (arith, h, length-take n run)) ∙ get_or_default run j d blank (omega (arith, h, length-take n run)))
 
 -- what a list keeps whose end is written anew from r on, and what stands in that end once it is filled
-pub end_kept : (s end : List Total) (r k : ℕ) → r ≤ length s → k < r → get_or (take r s ++ end) k Empty ≡ get_or s k Empty
-end_kept s end r k h b = get_or-append (take r s) end Empty k (omega (arith, length-take-le r s h)) ∙ get_or-take r s k Empty b
+pub end_kept : (s end : List Total) (r k : ℕ) → r ≤ length s → k < r → get_or (take r s ++ end) k None ≡ get_or s k None
+end_kept s end r k h b = get_or-append (take r s) end None k (omega (arith, length-take-le r s h)) ∙ get_or-take r s k None b
 
-pub end_filled : (s f past : List Total) (r n k : ℕ) → r + n ≡ length s → f ≡ replicate n Empty → r ≤ k → k < length s → get_or (take r s ++ (f ++ past)) k Empty ≡ Empty
+pub end_filled : (s f past : List Total) (r n k : ℕ) → r + n ≡ length s → f ≡ replicate n None → r ≤ k → k < length s → get_or (take r s ++ (f ++ past)) k None ≡ None
 end_filled s f past r n k h e b l =
     let here : k - r < n = omega arith in
-    get_or-append_right (take r s) (f ++ past) r k Empty (length-take-le r s (omega arith)) b
-    ∙ get_or-append f past Empty (k - r) (omega (arith, here, ap length e, length-replicate {A = Total} n Empty))
-    ∙ ap (λ (l : List Total). get_or l (k - r) Empty) e ∙ get_or-replicate n (k - r) Empty Empty here
+    get_or-append_right (take r s) (f ++ past) r k None (length-take-le r s (omega arith)) b
+    ∙ get_or-append f past None (k - r) (omega (arith, here, ap length e, length-replicate {A = Total} n None))
+    ∙ ap (λ (l : List Total). get_or l (k - r) None) e ∙ get_or-replicate n (k - r) None None here
 
 -- a row outside the shape of a matrix that has columns
 pub outside_empty : (m : Matrix) (x : ℕ → Value) (i : ℕ) → Sound m → m.rows ≤ i → 0 < m.columns → sum_of_products (m.entry i) x 0 m.columns ≡ empty

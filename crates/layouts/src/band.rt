@@ -60,7 +60,7 @@ impl Layout for Band<'_> {
 
     fn entry(&self, row: usize, column: usize) -> Cell {
         if !self.is_fit() {
-            return Cell::Empty;
+            return None;
         }
         if row < self.rows && column < self.columns {
             if column <= row + self.above && row <= column + self.below {
@@ -69,7 +69,7 @@ impl Layout for Band<'_> {
                 zero()
             }
         } else {
-            Cell::Empty
+            None
         }
     }
 

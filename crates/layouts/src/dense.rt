@@ -51,12 +51,12 @@ impl Layout for Dense<'_> {
 
     fn entry(&self, row: usize, column: usize) -> Cell {
         if !self.is_fit() {
-            return Cell::Empty;
+            return None;
         }
         if row < self.rows && column < self.columns {
             read(self.run[place(self.stride, row, column)])
         } else {
-            Cell::Empty
+            None
         }
     }
 }

@@ -11,13 +11,14 @@ use cells::cell::{Cell, Interval};
 pub(crate) fn zero() -> Cell
     ensures { cell_value result ≡ zeros }
 {
-    Cell::Bounds(Interval { lower: 0, upper: 0 })
+    Some(Interval { lower: 0, upper: 0 })
 }
 
+// `is_some` by the name that the definitions have for it, so that a chain's closure tells what it tests.
 pub(crate) fn is_filled(cell: Cell) -> bool
     ensures { result ≡ is_filled (cell_value cell) }
 {
-    !matches!(cell, Cell::Empty)
+    cell.is_some()
 }
 
 // Whether a place is on the side or on the diagonal.

@@ -58,7 +58,7 @@ impl<'a, 'b, L: Layout> RowTimes<'a, 'b, L> {
         if all_filled(self.run, columns) {
             self.filled_sum(columns)
         } else {
-            Total::Empty
+            None
         }
     }
 }

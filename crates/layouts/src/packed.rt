@@ -54,7 +54,7 @@ impl Layout for Packed<'_> {
 
     fn entry(&self, row: usize, column: usize) -> Cell {
         if !self.is_fit() {
-            return Cell::Empty;
+            return None;
         }
         if row < self.n && column < self.n {
             if is_on(self.side, row, column) {
@@ -63,7 +63,7 @@ impl Layout for Packed<'_> {
                 zero()
             }
         } else {
-            Cell::Empty
+            None
         }
     }
 

@@ -6,9 +6,8 @@ ghost use Rattle.layouts.specs.Rows.{row_sum, product_at};
 use crate::layout::Layout;
 use crate::operands::RowTimes;
 use crate::vector::Vector;
-use cells::cell::{Factors, Places, Record, Scale, Total};
-use cells::fault::{CellFault, Placed};
-use cells::reading::cell_at;
+use cells::cell::{Factors, Places, Record, Target, Total};
+use cells::fault::CellFault;
 use cells::rounding_out::round_out;
 use cells::totals::weighted;
 use rounding::rest::Rounding;
@@ -19,7 +18,7 @@ pub fn row_sum<L: Layout>(layout: &L, row: usize, xs: Vector<'_>) -> Total
 {
     let columns = layout.columns();
     if xs.filled < columns {
-        return Total::Empty;
+        return None;
     }
     let run = xs.run;
     let all = Places {
@@ -32,20 +31,13 @@ pub fn row_sum<L: Layout>(layout: &L, row: usize, xs: Vector<'_>) -> Total
 // beta·r + alpha·Σ L_ij·x_j over all columns of the layout, r being the cell at the row of a column.
 pub fn product_cell<L: Layout>(
     rounding: &mut Rounding,
-    scale: Scale,
     factors: Factors,
     layout: &L,
-    column: &[Record],
-    row: usize,
+    target: Target<'_>,
     xs: Vector<'_>,
 ) -> Result<Record, CellFault>
-    ensures { result ≡ product_at scale.steps (L.Layout.meaning layout.now) (cell_value factors.alpha) (cell_value factors.beta) column.now row xs.entry.run.now }
+    ensures { result ≡ product_at factors.scale.steps (L.Layout.meaning layout.now) (cell_value factors.alpha) (cell_value factors.beta) target.entry.column.now target.entry.row xs.entry.run.now }
 {
-    let sum = weighted(
-        scale,
-        factors,
-        cell_at(column, row),
-        row_sum(layout, row, xs),
-    );
-    Ok(round_out(rounding, sum, scale.squared()).at(row)?)
+    let sum = weighted(factors, target.old(), row_sum(layout, target.row, xs));
+    Ok(round_out(rounding, sum, factors.scale.squared()).map_err(|fault| (target.row, fault))?)
 }

@@ -7,10 +7,9 @@ ghost use Rattle.layouts.specs.Rows.{solved_sum, solve_at};
 use crate::layout::{Layout, Triangular};
 use crate::operands::RowTimes;
 use crate::side::Side;
-use cells::cell::{Cell, EMPTY, Places, Record, Total};
+use cells::cell::{Cell, EMPTY, Places, Record, Target, Total};
 use cells::dividing::{holds_zero, quotient_cell};
-use cells::fault::{CellFault, Placed};
-use cells::reading::cell_at;
+use cells::fault::CellFault;
 use cells::totals::remainder;
 use rounding::rest::Rounding;
 
@@ -57,14 +56,14 @@ pub fn solve_cell<T: Triangular>(
     rounding: &mut Rounding,
     layout: &T,
     alpha: Cell,
-    column: &[Record],
-    row: usize,
+    target: Target<'_>,
 ) -> Result<Record, CellFault>
-    ensures { result ≡ solve_at (T.Triangular.half layout.now) (T.Layout.meaning layout.now) (cell_value alpha) column.now row }
+    ensures { result ≡ solve_at (T.Triangular.half layout.now) (T.Layout.meaning layout.now) (cell_value alpha) target.entry.column.now target.entry.row }
 {
+    let Target { column, row } = target;
     if row >= layout.rows() {
         return Ok(EMPTY);
     }
-    let sum = remainder(alpha, cell_at(column, row), solved_sum(layout, row, column));
-    Ok(quotient_cell(rounding, sum, layout.entry(row, row)).at(row)?)
+    let sum = remainder(alpha, target.old(), solved_sum(layout, row, column));
+    Ok(quotient_cell(rounding, sum, layout.entry(row, row)).map_err(|fault| (row, fault))?)
 }

@@ -1,10 +1,9 @@
 // The sums of all rows of a product at once, column by column: storage stands column by column too, so memory is read in
 // order, and each x_j is read once.
-ghost use Rattle.std.specs.Prelude.{◌≡◌, ℕ, ◌+◌, ◌<◌, ◌≤◌, true, map, length, slice_index_or};
+ghost use Rattle.std.specs.Prelude.{◌≡◌, ℕ, ◌+◌, ◌<◌, ◌≤◌, true, map, length, None, slice_index_or};
 ghost use Rattle.std.specs.List.{range_with_len};
-ghost use Rattle.arithmetic.specs.Values.{zeros, times, plus, Small};
+ghost use Rattle.arithmetic.specs.Values.{times, plus, Small};
 ghost use Rattle.cells.specs.Cells.{cell_value, total_value, cell_at};
-ghost use Rattle.cells.specs.declared.cell.Total.TheVariants.{Empty};
 ghost use Rattle.layouts.specs.Filled.{is_filled};
 ghost use Rattle.layouts.specs.Rows.{row_sum};
 
@@ -14,32 +13,22 @@ use cells::cell::{Cell, Total, Totals};
 use cells::reading::read;
 use cells::totals::add_product;
 
-// The sum of no terms.
-fn no_terms() -> Total
-    ensures { total_value result ≡ zeros }
-{
-    Total::Bounds(Totals {
-        least: 0,
-        greatest: 0,
-    })
-}
-
 // Adds a column of the layout times a filled cell x, reading only the places outside which the column is [0, 0].
 fn add_column<L: Layout>(layout: &L, column: usize, x: Cell, sums: &mut [Total])
     requires filled { is_filled (cell_value x) ≡ true }
-    requires small { (k : ℕ) → k < length sums.old → Small 17574738002943 (total_value (slice_index_or sums.old k Empty)) }
-    ensures is { (k : ℕ) → k < length sums.old → k < (L.Layout.meaning layout.now).rows → total_value (slice_index_or sums.new k Empty) ≡ plus (total_value (slice_index_or sums.old k Empty)) (times ((L.Layout.meaning layout.now).entry k column) (cell_value x)) }
-    ensures size { (k : ℕ) → k < length sums.old → (n : ℕ) → Small n (total_value (slice_index_or sums.old k Empty)) → Small (n + 17179607041) (total_value (slice_index_or sums.new k Empty)) }
+    requires small { (k : ℕ) → k < length sums.old → Small 17574738002943 (total_value (slice_index_or sums.old k None)) }
+    ensures is { (k : ℕ) → k < length sums.old → k < (L.Layout.meaning layout.now).rows → total_value (slice_index_or sums.new k None) ≡ plus (total_value (slice_index_or sums.old k None)) (times ((L.Layout.meaning layout.now).entry k column) (cell_value x)) }
+    ensures size { (k : ℕ) → k < length sums.old → (n : ℕ) → Small n (total_value (slice_index_or sums.old k None)) → Small (n + 17179607041) (total_value (slice_index_or sums.new k None)) }
 {
     // x is taken apart before the loop, so that no turn asks whether it is filled
-    let Cell::Bounds(factor) = x else {
+    let Some(factor) = x else {
         return;
     };
     let places = layout.down(column);
     // the rows are counted: a chain over `iter_mut` with `take` and `skip` tells nothing of the sums that it leaves, and a part
     // of the sums has its own count, from 0 on
     for row in places.from..places.to.min(sums.len()) {
-        sums[row] = add_product(sums[row], layout.entry(row, column), Cell::Bounds(factor));
+        sums[row] = add_product(sums[row], layout.entry(row, column), Some(factor));
     }
 }
 
@@ -49,15 +38,15 @@ pub fn product_sums<L: Layout>(layout: &L, xs: Vector<'_>, sums: &mut [Total])
 {
     let columns = layout.columns();
     if xs.filled < columns {
-        sums.fill(Total::Empty);
+        sums.fill(None);
         return;
     }
-    sums.fill(no_terms());
+    sums.fill(Some(Totals::ZERO));
     for (column, record) in xs.run[..columns].iter().enumerate() {
         add_column(layout, column, read(*record), sums);
     }
     if columns > 0 {
         let rows = layout.rows().min(sums.len());
-        sums[rows..].fill(Total::Empty);
+        sums[rows..].fill(None);
     }
 }

@@ -47,7 +47,7 @@ impl<L: Layout> Layout for Symmetric<L> {
                 Side::Upper => self.below.entry(row.min(column), row.max(column)),
             }
         } else {
-            Cell::Empty
+            None
         }
     }
 

@@ -52,7 +52,7 @@ impl<L: Layout> Layout for Triangle<L> {
                 zero()
             }
         } else {
-            Cell::Empty
+            None
         }
     }
 

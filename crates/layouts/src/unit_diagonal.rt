@@ -23,7 +23,7 @@ fn one(unit: i64) -> Cell
     ensures { cell_value result ≡ bounds unit unit }
 {
     let steps = unit as i32;
-    Cell::Bounds(Interval {
+    Some(Interval {
         lower: steps,
         upper: steps,
     })
@@ -74,7 +74,7 @@ impl<T: Triangular> Layout for UnitDiagonal<T> {
 
     fn entry(&self, row: usize, column: usize) -> Cell {
         if !self.is_fit() {
-            return Cell::Empty;
+            return None;
         }
         if row < self.below.rows() && column < self.below.columns() {
             if row == column {
@@ -83,7 +83,7 @@ impl<T: Triangular> Layout for UnitDiagonal<T> {
                 self.below.entry(row, column)
             }
         } else {
-            Cell::Empty
+            None
         }
     }
 

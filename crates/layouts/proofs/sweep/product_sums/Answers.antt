@@ -1,12 +1,10 @@
-use Rattle.std.proofs.Common.{◌≡◌, ℕ, ◌+◌, ◌-◌, ◌*◌, ◌<◌, ◌≤◌, List, length, get_or, take, drop, length-drop, replicate, sym, subst, ap, ◌∙◌, ⊎_elim, rules, arith}
+use Rattle.std.proofs.Common.{◌≡◌, ℕ, ◌+◌, ◌-◌, ◌*◌, ◌<◌, ◌≤◌, List, length, None, get_or, take, drop, length-drop, replicate, sym, subst, ap, ◌∙◌, ⊎_elim, rules, arith}
 use Rattle.std.proofs.lemmas.Bool.{cases_lt}
 use Rattle.std.proofs.lemmas.List.{get_or-replicate, length-take}
 use Rattle.std.proofs.Math.Seq.{of_parts}
 use Rattle.arithmetic.specs.Values.{Value, empty, zeros, times, total, Small}
 use Rattle.arithmetic.proofs.Sizes.{small_more}
-use Rattle.cells.specs.declared.cell.Total.{Total}
-use Rattle.cells.specs.declared.cell.Total.TheVariants.{Empty}
-use Rattle.cells.specs.Cells.{cell_value, total_value, cell_at}
+use Rattle.cells.specs.Cells.{Total, cell_value, total_value, cell_at}
 use Rattle.layouts.specs.Filled.{is_filled}
 use Rattle.layouts.specs.Rows.{row_sum}
 use Rattle.layouts.proofs.Skips.{lacked}
@@ -16,18 +14,18 @@ use Rattle.layouts.proofs.sweep.product_sums.Goals as goal
 pub returns-then-xs-columns : goal.returns-then-xs-columns
 returns-then-xs-columns g c =
     let m = g.L.Layout.meaning c.args.layout.now in let x = c.args.xs in let n = length c.args.sums.now in
-    let filled : c.fill.new.self ≡ replicate n Empty = c.fill.ensures.after (λ y h. search rules) in
+    let filled : c.fill.new.self ≡ replicate n None = c.fill.ensures.after (λ y h. search rules) in
     let none : (k : ℕ) → row_sum m (cell_at x.run.now) k ≡ empty =
     λ k. lacked m x.run.now k 0 m.columns (record { place = x.filled; least = omega arith; most = omega (arith, c.columns-columns.ensures, c.if-xs-columns.true); lacks = x.next }) in
     all_sums (row_sum m (cell_at x.run.now)) c.fill.new.self n c.fill.ensures.len
-    (λ k h. ap (λ (l : List Total). total_value (get_or l k Empty)) filled ∙ ap total_value (get_or-replicate n k Empty Empty h) ∙ sym (none k))
+    (λ k h. ap (λ (l : List Total). total_value (get_or l k None)) filled ∙ ap total_value (get_or-replicate n k None None h) ∙ sym (none k))
 
 pub loop-column-init : goal.loop-column-init
 loop-column-init g c =
-    let n = length c.args.sums.now in let zero = c.no_terms.result in
-    let filled : c.fill-2.new.self ≡ replicate n zero = c.fill-2.ensures.after (λ y h. search rules) in
-    let here : (k : ℕ) → k < length c.fill-2.new.self → total_value (get_or c.fill-2.new.self k Empty) ≡ zeros =
-    λ k h. ap (λ (l : List Total). total_value (get_or l k Empty)) filled ∙ ap total_value (get_or-replicate n k zero Empty (omega (arith, h, c.fill-2.ensures.len))) ∙ c.no_terms.ensures in
+    let n = length c.args.sums.now in
+    let filled = c.fill-2.ensures.after (λ y h. search rules) in
+    let here : (k : ℕ) → k < length c.fill-2.new.self → total_value (get_or c.fill-2.new.self k None) ≡ zeros =
+    λ k h. ap (λ (l : List Total). total_value (get_or l k None)) filled ∙ ap total_value (get_or-replicate n k _ None (omega (arith, h, c.fill-2.ensures.len))) in
     (λ k h r. here k h, λ k h. let P : Value → Type 0 = Small 0 in subst P (sym (here k h)) (search rules), λ e. here)
 
 pub add_column-requires-clause-filled : goal.add_column-requires-clause-filled
@@ -43,10 +41,10 @@ loop-column-preserved g c =
     let new = c.add_column.new.sums in let same : length new ≡ length l.sums = c.add_column.auto.sums in
     let read : cell_value c.read.result ≡ x j = read_first run c.columns-columns.result j _ (cell_value c.read.result) c.loop-column-test.true c.read.ensures in (
       λ k h r. let lt : k < length l.sums = omega (arith, same, h) in
-          sum_more (λ j. times (m.entry k j) (x j)) j (total_value (get_or l.sums k Empty)) (times (m.entry k j) (cell_value c.read.result)) (total_value (get_or new k Empty))
+          sum_more (λ j. times (m.entry k j) (x j)) j (total_value (get_or l.sums k None)) (times (m.entry k j) (cell_value c.read.result)) (total_value (get_or new k None))
           (l.invariant.0 k lt r) (ap (times (m.entry k j)) read) (c.add_column.ensures.is k lt r),
       λ k h. let lt : k < length l.sums = omega (arith, same, h) in
-          small_more (17179607041 * j + 17179607041) (17179607041 * (j + 1)) (total_value (get_or new k Empty)) (omega arith) (c.add_column.ensures.size k lt (17179607041 * j) (l.invariant.1 k lt)),
+          small_more (17179607041 * j + 17179607041) (17179607041 * (j + 1)) (total_value (get_or new k None)) (omega arith) (c.add_column.ensures.size k lt (17179607041 * j) (l.invariant.1 k lt)),
       λ e k h. absurd (omega (arith, e)),
     )
 
