@@ -1,5 +1,5 @@
-// What C calls, for square matrices, worked column by column: Σ L_ij·x_j for each row that `sums` has a place for. The answer is
-// false where there are more than 1,024 sums, which are then left as they were.
+// What C calls, for square matrices, worked column by column: Σ L_ij·x_j for each row that `sums` has a place for. The answer, a
+// bool since a Result does not cross to C, is false where there are more than 1,024 sums, which are then left as they were.
 ghost use Rattle.std.specs.Prelude.{◌≡◌, true, false, map, length, nat_le};
 ghost use Rattle.std.specs.List.{range_with_len};
 ghost use Rattle.cells.specs.Cells.{cell_at};
