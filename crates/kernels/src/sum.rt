@@ -1,7 +1,7 @@
 // A sum as C reads it.
 ghost use Rattle.std.specs.Prelude.{◌≡◌};
 ghost use Rattle.cells.specs.Cells.{total_value};
-ghost use Rattle.kernels.specs.Sums.{sum_told};
+ghost use Rattle.kernels.specs.Sums.{sum_record};
 
 use cells::cell::Total;
 
@@ -15,7 +15,7 @@ pub struct SumRecord {
 }
 
 impl From<Total> for SumRecord {
-    ghost from_gives = { λ total r. sum_told r ≡ total_value total };
+    ghost from_gives = { λ total r. r ≡ sum_record (total_value total) };
 
     fn from(total: Total) -> SumRecord {
         match total {

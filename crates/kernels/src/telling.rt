@@ -16,6 +16,7 @@ use layouts::vector::Vector;
 #[derive(Clone, Copy)]
 pub(crate) struct TooManySums;
 
+#[tactic(auto, using(crate::proofs::Told::told_back))]
 fn tell_all(totals: &[Total], sums: &mut [SumRecord])
     requires { length sums.old ≡ length totals.now }
     ensures { map sum_told sums.new ≡ map total_value totals.now }
