@@ -1,1 +1,1 @@
-pub mod Places
+pub mod Told

@@ -1,7 +1,12 @@
 -- What a sum says in the form that C reads.
-use Rattle.std.specs.Prelude.{cond}
+use Rattle.std.specs.Prelude.{true, false, cond, pos}
 use Rattle.arithmetic.specs.Values.{Value, empty, bounds}
 use Rattle.kernels.specs.declared.sum.SumRecord.{SumRecord}
 
 abbrev pub sum_told : SumRecord → Value
 sum_told s = cond s.filled (bounds s.least s.greatest) empty
+
+-- the record that says a value; where it is empty, the bounds are 0
+abbrev pub sum_record : Value → SumRecord
+sum_record empty = record { filled = false; least = pos 0; greatest = pos 0 }
+sum_record (bounds a b) = record { filled = true; least = a; greatest = b }

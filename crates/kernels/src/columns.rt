@@ -1,5 +1,5 @@
-// What C calls, for square matrices, worked column by column: Σ L_ij·x_j for each row that `sums` has a place for. The answer is
-// false where there are more than 1,024 sums, which are then left as they were.
+// What C calls, for square matrices, worked column by column: Σ L_ij·x_j for each row that `sums` has a place for. The answer, a
+// bool since a Result does not cross to C, is false where there are more than 1,024 sums, which are then left as they were.
 ghost use Rattle.std.specs.Prelude.{◌≡◌, true, false, map, length, nat_le};
 ghost use Rattle.std.specs.List.{range_with_len};
 ghost use Rattle.cells.specs.Cells.{cell_at};
@@ -9,15 +9,10 @@ ghost use Rattle.layouts.specs.Rows.{row_sum};
 ghost use Rattle.layouts.specs.Stored.{dense, band, packed};
 ghost use Rattle.kernels.specs.Sums.{sum_told};
 
+use crate::square;
 use crate::sum::SumRecord;
 use crate::telling::by_columns;
 use cells::cell::Record;
-use layouts::band::Band;
-use layouts::dense::Dense;
-use layouts::packed::Packed;
-use layouts::side::Side;
-use layouts::symmetric::Symmetric;
-use layouts::transposed::Transposed;
 
 #[unsafe(no_mangle)]
 pub extern "C" fn bepyndo_dense_by_columns(
@@ -30,13 +25,7 @@ pub extern "C" fn bepyndo_dense_by_columns(
     ensures done { result ≡ true → map sum_told sums.new ≡ map (row_sum (dense run.now n n n) (cell_at xs.now)) (range_with_len 0 (length sums.old)) }
     ensures refused { result ≡ false → sums.new ≡ sums.old }
 {
-    let layout = Dense {
-        run,
-        rows: n,
-        columns: n,
-        stride: n,
-    };
-    by_columns(&layout, xs, sums)
+    by_columns(&square::dense(run, n), xs, sums).is_ok()
 }
 
 #[unsafe(no_mangle)]
@@ -52,15 +41,7 @@ pub extern "C" fn bepyndo_band_by_columns(
     ensures done { result ≡ true → map sum_told sums.new ≡ map (row_sum (band run.now n n k k stride) (cell_at xs.now)) (range_with_len 0 (length sums.old)) }
     ensures refused { result ≡ false → sums.new ≡ sums.old }
 {
-    let layout = Band {
-        run,
-        rows: n,
-        columns: n,
-        below: k,
-        above: k,
-        stride,
-    };
-    by_columns(&layout, xs, sums)
+    by_columns(&square::band(run, n, k, k, stride), xs, sums).is_ok()
 }
 
 #[unsafe(no_mangle)]
@@ -74,12 +55,7 @@ pub extern "C" fn bepyndo_packed_by_columns(
     ensures done { result ≡ true → map sum_told sums.new ≡ map (row_sum (packed run.now Lower n) (cell_at xs.now)) (range_with_len 0 (length sums.old)) }
     ensures refused { result ≡ false → sums.new ≡ sums.old }
 {
-    let layout = Packed {
-        run,
-        side: Side::Lower,
-        n,
-    };
-    by_columns(&layout, xs, sums)
+    by_columns(&square::packed(run, n), xs, sums).is_ok()
 }
 
 #[unsafe(no_mangle)]
@@ -93,15 +69,7 @@ pub extern "C" fn bepyndo_symmetric_by_columns(
     ensures done { result ≡ true → map sum_told sums.new ≡ map (row_sum (symmetric Lower (packed run.now Lower n)) (cell_at xs.now)) (range_with_len 0 (length sums.old)) }
     ensures refused { result ≡ false → sums.new ≡ sums.old }
 {
-    let layout = Symmetric {
-        below: Packed {
-            run,
-            side: Side::Lower,
-            n,
-        },
-        side: Side::Lower,
-    };
-    by_columns(&layout, xs, sums)
+    by_columns(&square::symmetric(run, n), xs, sums).is_ok()
 }
 
 #[unsafe(no_mangle)]
@@ -115,13 +83,5 @@ pub extern "C" fn bepyndo_transposed_by_columns(
     ensures done { result ≡ true → map sum_told sums.new ≡ map (row_sum (transposed (dense run.now n n n)) (cell_at xs.now)) (range_with_len 0 (length sums.old)) }
     ensures refused { result ≡ false → sums.new ≡ sums.old }
 {
-    let layout = Transposed {
-        below: Dense {
-            run,
-            rows: n,
-            columns: n,
-            stride: n,
-        },
-    };
-    by_columns(&layout, xs, sums)
+    by_columns(&square::transposed(run, n), xs, sums).is_ok()
 }

@@ -4,5 +4,6 @@
 
 mod columns;
 mod rows;
+mod square;
 pub mod sum;
 mod telling;

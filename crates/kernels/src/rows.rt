@@ -8,15 +8,10 @@ ghost use Rattle.layouts.specs.Rows.{row_sum};
 ghost use Rattle.layouts.specs.Stored.{dense, band, packed};
 ghost use Rattle.kernels.specs.Sums.{sum_told};
 
+use crate::square;
 use crate::sum::SumRecord;
 use crate::telling::by_rows;
 use cells::cell::Record;
-use layouts::band::Band;
-use layouts::dense::Dense;
-use layouts::packed::Packed;
-use layouts::side::Side;
-use layouts::symmetric::Symmetric;
-use layouts::transposed::Transposed;
 
 #[unsafe(no_mangle)]
 pub extern "C" fn bepyndo_dense_by_rows(
@@ -27,13 +22,7 @@ pub extern "C" fn bepyndo_dense_by_rows(
 )
     ensures { map sum_told sums.new ≡ map (row_sum (dense run.now n n n) (cell_at xs.now)) (range_with_len 0 (length sums.old)) }
 {
-    let layout = Dense {
-        run,
-        rows: n,
-        columns: n,
-        stride: n,
-    };
-    by_rows(&layout, xs, sums);
+    by_rows(&square::dense(run, n), xs, sums);
 }
 
 #[unsafe(no_mangle)]
@@ -47,15 +36,7 @@ pub extern "C" fn bepyndo_band_by_rows(
 )
     ensures { map sum_told sums.new ≡ map (row_sum (band run.now n n k k stride) (cell_at xs.now)) (range_with_len 0 (length sums.old)) }
 {
-    let layout = Band {
-        run,
-        rows: n,
-        columns: n,
-        below: k,
-        above: k,
-        stride,
-    };
-    by_rows(&layout, xs, sums);
+    by_rows(&square::band(run, n, k, k, stride), xs, sums);
 }
 
 #[unsafe(no_mangle)]
@@ -67,12 +48,7 @@ pub extern "C" fn bepyndo_packed_by_rows(
 )
     ensures { map sum_told sums.new ≡ map (row_sum (packed run.now Lower n) (cell_at xs.now)) (range_with_len 0 (length sums.old)) }
 {
-    let layout = Packed {
-        run,
-        side: Side::Lower,
-        n,
-    };
-    by_rows(&layout, xs, sums);
+    by_rows(&square::packed(run, n), xs, sums);
 }
 
 #[unsafe(no_mangle)]
@@ -84,15 +60,7 @@ pub extern "C" fn bepyndo_symmetric_by_rows(
 )
     ensures { map sum_told sums.new ≡ map (row_sum (symmetric Lower (packed run.now Lower n)) (cell_at xs.now)) (range_with_len 0 (length sums.old)) }
 {
-    let layout = Symmetric {
-        below: Packed {
-            run,
-            side: Side::Lower,
-            n,
-        },
-        side: Side::Lower,
-    };
-    by_rows(&layout, xs, sums);
+    by_rows(&square::symmetric(run, n), xs, sums);
 }
 
 #[unsafe(no_mangle)]
@@ -104,13 +72,5 @@ pub extern "C" fn bepyndo_transposed_by_rows(
 )
     ensures { map sum_told sums.new ≡ map (row_sum (transposed (dense run.now n n n)) (cell_at xs.now)) (range_with_len 0 (length sums.old)) }
 {
-    let layout = Transposed {
-        below: Dense {
-            run,
-            rows: n,
-            columns: n,
-            stride: n,
-        },
-    };
-    by_rows(&layout, xs, sums);
+    by_rows(&square::transposed(run, n), xs, sums);
 }

@@ -1,5 +1,5 @@
 // Sums worked out over any layout, and told in the form that C reads.
-ghost use Rattle.std.specs.Prelude.{◌≡◌, ◌≤◌, true, false, map, length, nat_le};
+ghost use Rattle.std.specs.Prelude.{◌≡◌, ◌≤◌, map, length, nat_le, is_ok, OnOk, OnErr};
 ghost use Rattle.std.specs.List.{range_with_len};
 ghost use Rattle.cells.specs.Cells.{total_value, cell_at};
 ghost use Rattle.layouts.specs.Rows.{row_sum};
@@ -12,62 +12,51 @@ use layouts::product::row_sum;
 use layouts::sweep::product_sums;
 use layouts::vector::Vector;
 
-fn told(total: Total) -> SumRecord
-    ensures { sum_told result ≡ total_value total }
-{
-    match total {
-        Total::Empty => SumRecord {
-            filled: false,
-            least: 0,
-            greatest: 0,
-        },
-        Total::Bounds(t) => SumRecord {
-            filled: true,
-            least: t.least,
-            greatest: t.greatest,
-        },
-    }
-}
+// There are more than 1,024 sums.
+#[derive(Clone, Copy)]
+pub(crate) struct TooManySums;
 
+#[tactic(auto, using(crate::proofs::Told::told_back))]
 fn tell_all(totals: &[Total], sums: &mut [SumRecord])
     requires { length sums.old ≡ length totals.now }
     ensures { map sum_told sums.new ≡ map total_value totals.now }
 {
-    for row in 0..sums.len() {
-        sums[row] = told(totals[row]);
+    // by the row, since of sums that are written through a zip a proof knows nothing
+    for (row, sum) in sums.iter_mut().enumerate() {
+        *sum = SumRecord::from(totals[row]);
     }
 }
 
-// Column by column, with the totals in places that are lent.
-fn swept<L: Layout>(layout: &L, xs: &[Record], places: &mut [Total], sums: &mut [SumRecord])
-    requires { length sums.old ≤ length places.old }
+// Column by column, with the totals in the first of N places.
+fn swept<const N: usize, L: Layout>(layout: &L, xs: &[Record], sums: &mut [SumRecord])
+    requires room { length sums.old ≤ N }
+    requires few { N ≤ 1024 }
     ensures { map sum_told sums.new ≡ map (row_sum (L.Layout.meaning layout.now) (cell_at xs.now)) (range_with_len 0 (length sums.old)) }
 {
-    let totals = &mut places[0..sums.len()];
+    let mut places = [Total::Empty; N];
+    let totals = &mut places[..sums.len()];
     product_sums(layout, Vector::of(xs), totals);
     tell_all(totals, sums);
 }
 
 // The sums of all rows, worked column by column. More than 1,024 sums are refused, and not touched.
-pub(crate) fn by_columns<L: Layout>(layout: &L, xs: &[Record], sums: &mut [SumRecord]) -> bool
-    ensures answer { result ≡ nat_le (length sums.old) 1024 }
-    ensures done { result ≡ true → map sum_told sums.new ≡ map (row_sum (L.Layout.meaning layout.now) (cell_at xs.now)) (range_with_len 0 (length sums.old)) }
-    ensures refused { result ≡ false → sums.new ≡ sums.old }
+pub(crate) fn by_columns<L: Layout>(
+    layout: &L,
+    xs: &[Record],
+    sums: &mut [SumRecord],
+) -> Result<(), TooManySums>
+    ensures answer { is_ok result ≡ nat_le (length sums.old) 1024 }
+    ensures done { OnOk result (map sum_told sums.new ≡ map (row_sum (L.Layout.meaning layout.now) (cell_at xs.now)) (range_with_len 0 (length sums.old))) }
+    ensures refused { OnErr result (sums.new ≡ sums.old) }
 {
     // a small product has a small array to set up
-    if sums.len() <= 16 {
-        swept(layout, xs, &mut [Total::Empty; 16], sums);
-        return true;
+    match sums.len() {
+        0..=16 => swept::<16, L>(layout, xs, sums),
+        17..=128 => swept::<128, L>(layout, xs, sums),
+        129..=1024 => swept::<1024, L>(layout, xs, sums),
+        _ => return Err(TooManySums),
     }
-    if sums.len() <= 128 {
-        swept(layout, xs, &mut [Total::Empty; 128], sums);
-        return true;
-    }
-    if sums.len() <= 1024 {
-        swept(layout, xs, &mut [Total::Empty; 1024], sums);
-        return true;
-    }
-    false
+    Ok(())
 }
 
 // The sums of all rows, worked row by row.
@@ -75,7 +64,7 @@ pub(crate) fn by_rows<L: Layout>(layout: &L, xs: &[Record], sums: &mut [SumRecor
     ensures { map sum_told sums.new ≡ map (row_sum (L.Layout.meaning layout.now) (cell_at xs.now)) (range_with_len 0 (length sums.old)) }
 {
     let vector = Vector::of(xs);
-    for row in 0..sums.len() {
-        sums[row] = told(row_sum(layout, row, vector));
+    for (row, sum) in sums.iter_mut().enumerate() {
+        *sum = SumRecord::from(row_sum(layout, row, vector));
     }
 }

@@ -2,7 +2,7 @@
 // BLAS reads from the same runs, written by `tools/storages-by-blas`.
 #![tactic(auto)]
 
-use cells::cell::{Cell, EMPTY, Record};
+use cells::cell::{Cell, Record};
 use layouts::band::Band;
 use layouts::dense::Dense;
 use layouts::layout::{Layout, Triangular};
@@ -12,8 +12,7 @@ use layouts::symmetric::Symmetric;
 use layouts::transposed::Transposed;
 use layouts::triangle::Triangle;
 use layouts::unit_diagonal::UnitDiagonal;
-use std::alloc::{AllocError, Global};
-use std::io;
+use std::{array, fmt, io};
 
 // The number of steps to one unit.
 const UNIT: i32 = 1000;
@@ -25,15 +24,13 @@ const SIDES: [Side; 2] = [Side::Lower, Side::Upper];
 // Place k holds k + 2 units, and so does a place that no entry uses: an entry shows where it was read. No place holds one
 // unit, so a one comes from a unit diagonal.
 fn numbered() -> [Record; PLACES] {
-    let mut run = [EMPTY; PLACES];
-    for k in 0..PLACES {
+    array::from_fn(|k| {
         let steps = UNIT * (k as i32 + 2);
-        run[k] = Record {
+        Record {
             lower: steps,
             upper: steps,
-        };
-    }
-    run
+        }
+    })
 }
 
 // The storages that symmetric and triangular matrices are read from, with what a heading says of each.
@@ -76,16 +73,35 @@ fn packed(run: &[Record; PLACES], side: Side) -> Packed<'_> {
     }
 }
 
-fn print_cell(rt: &HostRuntime, cell: Cell) -> io::Result<()> {
-    match cell {
-        Cell::Empty => print!(rt; "-"),
-        Cell::Bounds(pair) => {
-            if pair.lower == pair.upper {
-                print!(rt; "{}", pair.lower)
-            } else {
-                print!(rt; "{}..{}", pair.lower, pair.upper)
-            }
+// A cell as it is printed: one number where both bounds are the same, a dash where it is empty.
+#[derive(Clone, Copy)]
+struct Printed(Cell);
+
+impl fmt::Display for Printed {
+    fn fmt<W: fmt::Write>(&self, f: &mut fmt::Formatter<W>) -> fmt::Result {
+        match self.0 {
+            Cell::Empty => write!(f, "-"),
+            Cell::Bounds(pair) if pair.lower == pair.upper => write!(f, "{}", pair.lower),
+            Cell::Bounds(pair) => write!(f, "{}..{}", pair.lower, pair.upper),
         }
+    }
+}
+
+// What stands above a matrix that is read from one side: BLAS's name of the scheme, the side, and the size.
+#[derive(Clone, Copy)]
+struct Heading<'a> {
+    scheme: &'a str,
+    side: Side,
+    size: &'a str,
+}
+
+impl fmt::Display for Heading<'_> {
+    fn fmt<W: fmt::Write>(&self, f: &mut fmt::Formatter<W>) -> fmt::Result {
+        let side = match self.side {
+            Side::Lower => "lower",
+            Side::Upper => "upper",
+        };
+        write!(f, "{} {side}, {}", self.scheme, self.size)
     }
 }
 
@@ -94,12 +110,16 @@ fn print_row<L: Layout>(rt: &HostRuntime, matrix: &L, row: usize) -> io::Result<
         if column > 0 {
             print!(rt; " ")?;
         }
-        print_cell(rt, matrix.entry(row, column))?;
+        print!(rt; "{}", Printed(matrix.entry(row, column)))?;
     }
     println!(rt)
 }
 
-fn print_matrix<L: Layout>(rt: &HostRuntime, heading: &str, matrix: &L) -> io::Result<()> {
+fn print_matrix<L: Layout>(
+    rt: &HostRuntime,
+    heading: impl fmt::Display + Drop,
+    matrix: &L,
+) -> io::Result<()> {
     println!(rt; "{heading}")?;
     for row in 0..matrix.rows() {
         print_row(rt, matrix, row)?;
@@ -107,22 +127,18 @@ fn print_matrix<L: Layout>(rt: &HostRuntime, heading: &str, matrix: &L) -> io::R
     println!(rt)
 }
 
-fn print_transposed<L: Layout>(rt: &HostRuntime, heading: &str, matrix: &L) -> io::Result<()> {
-    let heading = format!(in rt.alloc(); "{heading}, transposed")?;
-    print_matrix(rt, heading.as_str(), &Transposed { below: matrix })
+fn print_transposed<L: Layout>(
+    rt: &HostRuntime,
+    heading: impl fmt::Display + Drop,
+    matrix: &L,
+) -> io::Result<()> {
+    let heading = format_args!("{heading}, transposed");
+    print_matrix(rt, heading, &Transposed { below: matrix })
 }
 
 fn print_general<L: Layout>(rt: &HostRuntime, heading: &str, matrix: &L) -> io::Result<()> {
     print_matrix(rt, heading, matrix)?;
     print_transposed(rt, heading, matrix)
-}
-
-fn sided(heap: Global, scheme: &str, side: Side, size: &str) -> Result<String, AllocError> {
-    let word = match side {
-        Side::Lower => "lower",
-        Side::Upper => "upper",
-    };
-    format!(in heap; "{scheme} {word}, {size}")
 }
 
 fn print_symmetric<L: Layout>(
@@ -131,8 +147,8 @@ fn print_symmetric<L: Layout>(
     size: &str,
     matrix: &Symmetric<L>,
 ) -> io::Result<()> {
-    let heading = sided(rt.alloc(), scheme, matrix.side, size)?;
-    print_matrix(rt, heading.as_str(), matrix)
+    let side = matrix.side;
+    print_matrix(rt, Heading { scheme, side, size }, matrix)
 }
 
 // With the diagonal that is stored and with ones on it, then both transposed.
@@ -142,16 +158,17 @@ fn print_triangular<T: Triangular>(
     size: &str,
     matrix: &T,
 ) -> io::Result<()> {
-    let heading = sided(rt.alloc(), scheme, matrix.side(), size)?;
+    let side = matrix.side();
+    let heading = Heading { scheme, side, size };
+    let with_ones_heading = format_args!("{heading}, unit diagonal");
     let with_ones = UnitDiagonal {
         below: matrix,
         unit: UNIT as i64,
     };
-    let with_ones_heading = format!(in rt.alloc(); "{heading}, unit diagonal")?;
-    print_matrix(rt, heading.as_str(), matrix)?;
-    print_matrix(rt, with_ones_heading.as_str(), &with_ones)?;
-    print_transposed(rt, heading.as_str(), matrix)?;
-    print_transposed(rt, with_ones_heading.as_str(), &with_ones)
+    print_matrix(rt, heading, matrix)?;
+    print_matrix(rt, &with_ones_heading, &with_ones)?;
+    print_transposed(rt, heading, matrix)?;
+    print_transposed(rt, &with_ones_heading, &with_ones)
 }
 
 fn print_generals(rt: &HostRuntime, run: &[Record; PLACES]) -> io::Result<()> {
