@@ -1,6 +1,6 @@
 // The numbers of the account.
 ghost use Rattle.std.specs.Prelude.{◌≡◌, IfOk, string_bytes};
-ghost use Rattle.station.specs.Texts.{minus_text, kpa_text, dip_text};
+ghost use Rattle.account.specs.Texts.{minus_text, kpa_text, dip_text};
 
 use std::alloc::{AllocError, Global};
 

@@ -1,8 +1,8 @@
 use Rattle.std.proofs.Common.{◌≡◌, ℕ, ◌/◌, ◌%◌, List, ◌++◌, nat_abs, string_bytes, codes, decimal, ap, ◌∙◌, w32, SFits}
 use Rattle.std.proofs.lemmas.Result.{IfOk-weaker}
 use Rattle.std.proofs.lemmas.Int.{to_z-of_z}
-use Rattle.station.specs.Texts.{minus_text, kpa_text}
-use Rattle.station.proofs.texts.kpa.Goals as goal
+use Rattle.account.specs.Texts.{minus_text, kpa_text}
+use Rattle.account.proofs.texts.kpa.Goals as goal
 
 pub returns : goal.returns
 returns c =

@@ -1,6 +1,6 @@
 // The bar of a pair: a scale of 0 to 400 kPa in 40 characters of 10 kPa each.
 ghost use Rattle.std.specs.Prelude.{◌≡◌, IfOk, string_bytes};
-ghost use Rattle.station.specs.Bars.{place, at_dip, mark_at, sign, bar_text};
+ghost use Rattle.account.specs.Bars.{place, at_dip, mark_at, sign, bar_text};
 
 use cells::cell::Interval;
 use std::alloc::{AllocError, Global};

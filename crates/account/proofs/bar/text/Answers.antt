@@ -2,10 +2,10 @@ use Rattle.std.proofs.Common.{◌≡◌, ℕ, ◌+◌, List, [], ◌∷◌, ◌+
 use lib.Utf8.{encode}
 use Rattle.std.proofs.lemmas.List.FromFn.{map-range_with_len_more}
 use Rattle.std.specs.List.{range_with_len}
-use Rattle.station.specs.declared.bar.Mark.{Mark}
-use Rattle.station.specs.declared.bar.Mark.TheVariants.{Nothing, Pair, Dip, Both}
-use Rattle.station.specs.Bars.{mark_at, sign}
-use Rattle.station.proofs.bar.text.Goals as goal
+use Rattle.account.specs.declared.bar.Mark.{Mark}
+use Rattle.account.specs.declared.bar.Mark.TheVariants.{Nothing, Pair, Dip, Both}
+use Rattle.account.specs.Bars.{mark_at, sign}
+use Rattle.account.proofs.bar.text.Goals as goal
 
 -- each sign is one byte
 one_byte : (m : Mark) → encode (sign m) ≡ sign m ∷ []

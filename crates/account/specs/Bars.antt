@@ -1,8 +1,8 @@
 -- The bar of a pair: which character a number of steps falls in, and what each character shows.
 use Rattle.std.specs.Prelude.{ℕ, ◌/◌, min, Bool, true, false, ◌&&◌, List, map, ℤ, pos, negsuc, Some, None, Option, ◌==◌, nat_le}
 use Rattle.std.specs.List.{range_with_len}
-use Rattle.station.specs.declared.bar.Mark.{Mark}
-use Rattle.station.specs.declared.bar.Mark.TheVariants as mark
+use Rattle.account.specs.declared.bar.Mark.{Mark}
+use Rattle.account.specs.declared.bar.Mark.TheVariants as mark
 
 -- a character is 1000 steps wide, and there are 40; what leaves the scale falls in the character at its edge
 abbrev pub place : ℤ → ℕ
