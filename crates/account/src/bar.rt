@@ -22,19 +22,13 @@ pub enum Mark {
 fn place_of(steps: i32) -> u32
     ensures { result ≡ place steps }
 {
-    if steps < 0 {
-        return 0;
-    }
-    (steps as u32 / STEPS_TO_A_PLACE).min(PLACES - 1)
+    (u32::try_from(steps).unwrap_or(0) / STEPS_TO_A_PLACE).min(PLACES - 1)
 }
 
 fn is_at(dip: Option<i32>, k: u32) -> bool
     ensures { result ≡ at_dip dip k }
 {
-    match dip {
-        Some(steps) => place_of(steps) == k,
-        None => false,
-    }
+    dip.is_some_and(|steps| place_of(steps) == k)
 }
 
 fn mark_in(pair: Interval, dip: Option<i32>, k: u32) -> Mark
@@ -49,23 +43,23 @@ fn mark_in(pair: Interval, dip: Option<i32>, k: u32) -> Mark
     }
 }
 
-fn sign_of(mark: Mark) -> char
-    ensures { result ≡ sign mark }
-{
-    match mark {
-        Mark::Both => '@',
-        Mark::Pair => '=',
-        Mark::Dip => 'o',
-        Mark::Nothing => '.',
+impl From<Mark> for char {
+    ghost from_gives = { λ m r. r ≡ sign m };
+
+    fn from(mark: Mark) -> char {
+        match mark {
+            Mark::Both => '@',
+            Mark::Pair => '=',
+            Mark::Dip => 'o',
+            Mark::Nothing => '.',
+        }
     }
 }
 
 pub fn text(heap: Global, pair: Interval, dip: Option<i32>) -> Result<String, AllocError>
     ensures { IfOk result (λ s. string_bytes s ≡ bar_text pair.lower pair.upper dip) }
 {
-    let mut bar = String::new(heap);
-    for k in 0..PLACES {
-        bar.push(sign_of(mark_in(pair, dip, k)))?;
-    }
-    Ok(bar)
+    (0..PLACES)
+        .map(|k| char::from(mark_in(pair, dip, k)))
+        .collect(heap)
 }

@@ -5,6 +5,7 @@ ghost use Rattle.account.specs.Groups.{member};
 use crate::finding::Finding;
 use crate::outcome::{NoPair, Reason};
 use crate::standing::Standing;
+use std::fmt;
 
 // A tip is at fault where it has no pair, and that for no neighbour's sake.
 #[derive(Clone, Copy)]
@@ -45,4 +46,23 @@ pub fn count<L: Reason>(findings: &[Finding<L>], group: Group) -> usize
     ensures { result ≡ count_by (member L.own group) findings.now }
 {
     findings.iter().filter(|f| f.is_in(group)).count()
+}
+
+// The tips of a group by their numbers: `tip 6`, or `tips 4, 7`.
+#[derive(Clone, Copy)]
+pub struct Tips<'a, L> {
+    pub findings: &'a [Finding<L>],
+    pub group: Group,
+}
+
+impl<'a, L: Reason> fmt::Display for Tips<'a, L> {
+    fn fmt<W: fmt::Write>(&self, f: &mut fmt::Formatter<W>) -> fmt::Result {
+        let members = self.findings.iter().filter(|x| x.is_in(self.group));
+        f.write_str(if count(self.findings, self.group) == 1 {
+            "tip "
+        } else {
+            "tips "
+        })?;
+        f.write_joined(members.map(|x| x.number), ", ")
+    }
 }

@@ -6,5 +6,7 @@ pub mod bar;
 pub mod finding;
 pub mod groups;
 pub mod outcome;
+pub mod printing;
 pub mod standing;
 pub mod texts;
+pub mod units;

@@ -1,10 +1,12 @@
-use Rattle.std.proofs.Common.{◌≡◌, ℕ, ◌+◌, List, [], ◌∷◌, ◌++◌, map, string_bytes, refl, ap, ◌∙◌, arith}
-use lib.Utf8.{encode}
-use Rattle.std.proofs.lemmas.List.FromFn.{map-range_with_len_more}
+use Rattle.std.proofs.Common.{rules, ◌≡◌, IfOk, string_bytes, ℕ, List, [], ◌∷◌, ◌++◌, map, refl, ap, ◌∙◌}
+use Rattle.std.proofs.lemmas.Iterator.{YieldsList-from_map, YieldsList-from_range, text_from_collect}
+use Rattle.std.proofs.lemmas.Result.{IfOk-weaker}
 use Rattle.std.specs.List.{range_with_len}
+use Rattle.std.specs.Str.{encode_utf8_all}
+use lib.Utf8.{encode}
 use Rattle.account.specs.declared.bar.Mark.{Mark}
 use Rattle.account.specs.declared.bar.Mark.TheVariants.{Nothing, Pair, Dip, Both}
-use Rattle.account.specs.Bars.{mark_at, sign}
+use Rattle.account.specs.Bars.{mark_at, sign, bar_text}
 use Rattle.account.proofs.bar.text.Goals as goal
 
 -- each sign is one byte
@@ -15,16 +17,14 @@ one_byte Pair = refl
 one_byte Dip = refl
 one_byte Both = refl
 
--- the sign b of the mark m is pushed behind the first k
-push_more : (mark : ℕ → Mark) (k b : ℕ) (before after : List ℕ) → before ≡ map (λ i. sign (mark i)) (range_with_len 0 k) → b ≡ sign (mark k) → after ≡ before ++ encode b
-    → after ≡ map (λ i. sign (mark i)) (range_with_len 0 (k + 1))
-push_more mark k b before after sofar here pushed =
-    let all = map-range_with_len_more (λ i. sign (mark i)) 0 k k (omega arith) in
-    let byte = one_byte (mark k) in
-    cc
+bytes_of_signs : (mark : ℕ → Mark) (ks : List ℕ) → encode_utf8_all (map (λ k. sign (mark k)) ks) ≡ map (λ k. sign (mark k)) ks
+bytes_of_signs mark [] = refl
+bytes_of_signs mark (k ∷ ks) = ap (λ b. b ++ encode_utf8_all (map (λ i. sign (mark i)) ks)) (one_byte (mark k)) ∙ ap (λ bs. sign (mark k) ∷ bs) (bytes_of_signs mark ks)
 
-pub loop-k-preserved : goal.loop-k-preserved
-loop-k-preserved c =
+pub returns : goal.returns
+returns c =
     let mark : ℕ → Mark = mark_at c.args.pair.lower c.args.pair.upper c.args.dip in
-    push_more mark c.loop-k.k c.sign_of.result (string_bytes c.loop-k.bar) (string_bytes c.push.new.self) c.loop-k.invariant (c.sign_of.ensures ∙ ap sign c.mark_in.ensures)
-    c.in_ok-push.ensures.bytes
+    let bytes =
+    text_from_collect c.collect.result c.collect.ensures.ran
+    (YieldsList-from_map _ (λ k. sign (mark k)) (YieldsList-from_range 0 40 40 c.map.ensures.source refl) c.map.ensures.closure (λ x r q k. search rules)) in
+    IfOk-weaker c.collect.result _ (λ s. string_bytes s ≡ bar_text c.args.pair.lower c.args.pair.upper c.args.dip) (λ s e. e ∙ bytes_of_signs mark (range_with_len 0 40)) bytes
