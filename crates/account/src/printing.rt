@@ -117,12 +117,10 @@ fn print_next<L: Reason + Copy>(rt: &impl Print, findings: &[Finding<L>]) -> io:
     if count(findings, Group::Inside) == findings.len() {
         return println!(rt; " nothing, every dip lies inside.");
     }
-    let mut separator = "";
-    for (group, task) in TASKS {
-        if count(findings, group) > 0 {
-            print!(rt; "{separator} {task} {}", Tips { findings, group })?;
-            separator = ";";
-        }
+    let due = TASKS.into_iter().filter(|(group, _)| count(findings, *group) > 0);
+    for (k, (group, task)) in due.enumerate() {
+        let separator = if k == 0 { "" } else { ";" };
+        print!(rt; "{separator} {task} {}", Tips { findings, group })?;
     }
     println!(rt; ".")
 }
