@@ -1,4 +1,6 @@
 pub mod Bars
+pub mod Findings
+pub mod FoundLaws
 pub mod Groups
 pub mod Lacks
 pub mod Outcomes

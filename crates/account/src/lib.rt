@@ -7,6 +7,7 @@ pub mod finding;
 pub mod groups;
 pub mod outcome;
 pub mod printing;
+pub mod records;
 pub mod standing;
 pub mod texts;
 pub mod units;

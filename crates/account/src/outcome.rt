@@ -1,10 +1,9 @@
 // What became of a tip: the bounds of its pressure, or why there are none.
 ghost use Rattle.std.specs.Prelude.{◌≡◌, Bool};
 ghost use Rattle.account.specs.declared.outcome.NoPair.TheVariants.{PastLimit};
-ghost use Rattle.account.specs.Lacks.{is_blank};
 ghost use Rattle.account.specs.Outcomes.{no_pair_words};
 
-use cells::cell::{EMPTY, Interval, Record};
+use cells::cell::Interval;
 use cells::fault::CellFault;
 use rounding::fault::Bound;
 use std::fmt;
@@ -41,15 +40,12 @@ impl<L: fmt::Display> fmt::Display for NoPair<L> {
     fn fmt<W: fmt::Write>(&self, f: &mut fmt::Formatter<W>) -> fmt::Result {
         match self {
             NoPair::Lacking(lack) => lack.fmt(f),
-            NoPair::PastLimit(Bound::Lower) => f.pad("lower bound past the limit: nothing worked out"),
-            NoPair::PastLimit(Bound::Upper) => f.pad("upper bound past the limit: nothing worked out"),
+            NoPair::PastLimit(Bound::Lower) => f.pad(
+                "lower bound past the limit: nothing worked out",
+            ),
+            NoPair::PastLimit(Bound::Upper) => f.pad(
+                "upper bound past the limit: nothing worked out",
+            ),
         }
     }
-}
-
-// The record that an instrument leaves where it gives nothing.
-pub fn is_blank(record: Record) -> bool
-    ensures { result ≡ is_blank «record» }
-{
-    record.lower == EMPTY.lower && record.upper == EMPTY.upper
 }

@@ -1,10 +1,9 @@
 // The account as it is printed: a heading, a line for each tip, a legend, the counts, and what to do next.
-use crate::bar;
 use crate::finding::Finding;
 use crate::groups::{Group, Tips, count};
 use crate::outcome::{NoPair, Reason};
-use crate::texts;
 use crate::units::UNIT;
+use crate::{bar, texts};
 use cells::cell::Interval;
 use rounding::rest::dividing::LIMIT;
 use std::{fmt, io};
@@ -117,7 +116,9 @@ fn print_next<L: Reason + Copy>(rt: &impl Print, findings: &[Finding<L>]) -> io:
     if count(findings, Group::Inside) == findings.len() {
         return println!(rt; " nothing, every dip lies inside.");
     }
-    let due = TASKS.into_iter().filter(|(group, _)| count(findings, *group) > 0);
+    let due = TASKS
+        .into_iter()
+        .filter(|(group, _)| count(findings, *group) > 0);
     for (k, (group, task)) in due.enumerate() {
         let separator = if k == 0 { "" } else { ";" };
         print!(rt; "{separator} {task} {}", Tips { findings, group })?;
