@@ -139,3 +139,46 @@ pub fn print<L: Reason + fmt::Display + Copy>(
     print_counts(rt, findings, words.lacking)?;
     print_next(rt, findings)
 }
+
+#[cfg(test)]
+mod tests {
+    use super::*;
+    use rounding::fault::Bound;
+
+    #[derive(Clone, Copy)]
+    struct Silent;
+
+    impl Reason for Silent {
+        ghost use Rattle.std.specs.Prelude.{true};
+
+        ghost own = { λ _. true };
+
+        fn is_own(&self) -> bool {
+            true
+        }
+    }
+
+    impl fmt::Display for Silent {
+        fn fmt<W: fmt::Write>(&self, f: &mut fmt::Formatter<W>) -> fmt::Result {
+            f.pad("silent")
+        }
+    }
+
+    #[test]
+    fn prints_a_pair_a_lack_and_a_bound_past_the_limit(rt: HostRuntime) -> io::Result<()> {
+        let pair = Interval {
+            lower: -23,
+            upper: 39,
+        };
+        let findings = [
+            Finding::new(1, Some(10), Ok(pair)),
+            Finding::new(2, None, Err(NoPair::Lacking(Silent))),
+            Finding::new(3, Some(20), Err(NoPair::PastLimit(Bound::Upper))),
+        ];
+        let words = Words {
+            notes: "",
+            lacking: "silent",
+        };
+        print(&rt, &findings, words)
+    }
+}
