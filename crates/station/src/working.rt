@@ -59,7 +59,8 @@ pub fn work_out(rounding: &mut Rounding, junction: &Junction, place: usize) -> O
     ensures value { told place result ≡ as_read (product_at (pos 100) (band junction.now.calibration 3 3 1 1 3) unity unity junction.now.offsets place junction.now.readings) }
     ensures lack { TellsLack (lack_of junction.now.readings place) result }
 {
-    match read(pressure_at(rounding, junction, place)?) {
+    let record = pressure_at(rounding, junction, place)?;
+    match read(record) {
         Cell::Empty => Err(NoPair::Lacking(why(&junction.readings, place))),
         Cell::Bounds(pair) => Ok(pair),
     }
