@@ -1,6 +1,3 @@
-pub mod Bars
 pub mod Findings
-pub mod Groups
-pub mod Outcomes
+pub mod Lacks
 pub mod Runs
-pub mod Texts

@@ -13,9 +13,6 @@ calibration_of t = t.calibration
 abbrev pub offset_of : Tip → Record
 offset_of t = t.offset
 
--- the first n places of a run have the records of the first n tips
-abbrev pub Upto : (Tip → Record) → List Tip → ℕ → List Record → Type 0
-Upto f tips n run = (k : ℕ) (d : Tip) → k < n → slice_index_or run k blank ≡ f (slice_index_or tips k d)
-
+-- each place of a run that a tip has, has what f takes of the tip
 abbrev pub Gathered : (Tip → Record) → List Tip → List Record → Type 0
-Gathered f tips run = Upto f tips (length tips) run
+Gathered f tips run = (k : ℕ) (d : Tip) → k < length tips → slice_index_or run k blank ≡ f (slice_index_or tips k d)

@@ -5,9 +5,6 @@ use cells::cell::{EMPTY, Record};
 
 pub const TIPS: usize = 12;
 
-// The number of steps to one mA, to one kPa per mA and to one kPa.
-pub const UNIT: i32 = 100;
-
 // The reading is the current of the tip's loop in mA, the calibration is in kPa per mA, the offset in kPa.
 // The dip is the pressure in kPa that the standpipe beside the tip shows, where one was taken.
 #[derive(Clone, Copy)]
@@ -77,18 +74,10 @@ impl Line {
         ensures calibrations { Gathered calibration_of tips.now result.calibrations }
         ensures offsets { Gathered offset_of tips.now result.offsets }
     {
-        let mut readings = [EMPTY; TIPS];
-        let mut calibrations = [EMPTY; TIPS];
-        let mut offsets = [EMPTY; TIPS];
-        for (row, tip) in tips.iter().enumerate() {
-            readings[row] = tip.reading;
-            calibrations[row] = tip.calibration;
-            offsets[row] = tip.offset;
-        }
         Line {
-            readings,
-            calibrations,
-            offsets,
+            readings: tips.map(|tip| tip.reading),
+            calibrations: tips.map(|tip| tip.calibration),
+            offsets: tips.map(|tip| tip.offset),
         }
     }
 }

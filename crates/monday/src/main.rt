@@ -2,16 +2,18 @@
 // lies between them.
 #![tactic(auto)]
 
+use account::printing::{Words, print};
 use std::io;
 
-mod account;
-mod bar;
-mod groups;
+mod lack;
 mod line;
-mod texts;
 mod working;
 
 fn main(rt: HostRuntime) -> io::Result<()> {
     let findings = working::findings(rt.alloc(), &line::upstream())?;
-    account::print(&rt, findings.as_slice())
+    let words = Words {
+        notes: "",
+        lacking: "no reading",
+    };
+    print(&rt, findings.as_slice(), words)
 }

@@ -2,14 +2,23 @@
 // lies between them.
 #![tactic(auto)]
 
+use account::printing::{Words, print};
+use station::line::TIPS_OF_A_BOX;
 use station::working::findings;
 use std::io;
 
-mod account;
 mod upstream;
-mod words;
 
 fn main(rt: HostRuntime) -> io::Result<()> {
     let findings = findings(rt.alloc(), &upstream::line())?;
-    account::print(&rt, findings.as_slice())
+    let notes = format!(in rt.alloc();
+        "Boxes: every {0} tips share one, calibrated by a band matrix, since neighbours leak a little into one another.\n\
+         Where one reading of a box is missing, none of its {0} tips gets a pair; the other boxes are not touched.\n",
+        TIPS_OF_A_BOX
+    )?;
+    let words = Words {
+        notes: notes.as_str(),
+        lacking: "lack a record",
+    };
+    print(&rt, findings.as_slice(), words)
 }

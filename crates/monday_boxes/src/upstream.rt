@@ -11,8 +11,8 @@ fn record((lower, upper): Pair) -> Record {
     Record { lower, upper }
 }
 
-fn records([first, second, third]: [Pair; TIPS_OF_A_BOX]) -> [Record; TIPS_OF_A_BOX] {
-    [record(first), record(second), record(third)]
+fn records(pairs: [Pair; TIPS_OF_A_BOX]) -> [Record; TIPS_OF_A_BOX] {
+    pairs.map(record)
 }
 
 // Band storage, column after column, each from above the diagonal to below it. The first column has nothing above and the

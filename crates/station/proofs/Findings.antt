@@ -1,44 +1,28 @@
--- The finding at a row is what the records of its box say; one more finding in the list. Assumes the laws of cells and of
--- layouts.
-use Rattle.std.proofs.Common.{◌≡◌, ℕ, ◌+◌, ◌/◌, ◌%◌, ◌<◌, true, List, length, get_or, None, Result, sym, refl, ap, ◌∙◌, subst, arith, below_more}
+-- The finding of the tip at a place of a box is what the records of the box say. Assumes the laws of cells and of layouts.
+use Rattle.std.proofs.Common.{◌≡◌, ℕ, ◌+◌, ◌*◌, ◌/◌, ◌%◌, ◌<◌, List, length, get_or, None, Result, arith}
 use Rattle.std.proofs.lemmas.List.{get_or_default}
-use Rattle.arithmetic.specs.Values.{Value}
-use Rattle.cells.specs.declared.fault.CellFault.{CellFault}
+use Rattle.cells.specs.declared.cell.Interval.{Interval}
 use Rattle.cells.specs.Faults.{kept, in_row}
+use Rattle.account.specs.declared.outcome.NoPair.{NoPair}
+use Rattle.account.specs.Findings.{Found}
+use Rattle.account.specs.FoundLaws.{found}
+use Rattle.account.specs.Lacks.{TellsLack}
+use Rattle.account.specs.Outcomes.{told, as_read}
+use Rattle.account.specs.Standings.{standing_of}
+use Rattle.station.specs.declared.lack.Lack.{Lack}
 use Rattle.station.specs.declared.line.Junction.{Junction}
-use Rattle.station.specs.declared.working.Finding.{Finding}
-use Rattle.station.specs.declared.working.Outcome.{Outcome}
-use Rattle.station.specs.declared.working.Standing.{Standing}
-use Rattle.station.specs.Findings.{pressure, Sound, Found, AllFound}
-use Rattle.station.specs.Outcomes.{told, as_read, standing_of, TellsLack}
-use Rattle.station.proofs.Soundness.{Laws, sound_kept}
-
--- the finding of the tip at a place of a box
-abbrev pub finding : Junction → (row place : ℕ) → Outcome → Standing → Finding
-finding j row place o s = record { number = row + 1; dip = get_or j.dips place None; outcome = o; standing = s }
-
-found : (laws : Laws) (j : Junction) (row place : ℕ) (o : Outcome) (s : Standing) → length j.calibration ≡ 9
-    → told place o ≡ as_read (in_row place (kept (pressure j place))) → TellsLack j.readings place o → s ≡ standing_of o (get_or j.dips place None)
-    → Found j row place (finding j row place o s)
-found laws j row place o s l out lack stands =
-    let P : Result Value CellFault → Type 0 = Sound j place in
-    record { number = refl; dip = refl; outcome = out; lack = lack; sound = subst P (sym out) (sound_kept laws j place l); standing = stands }
+use Rattle.station.specs.Findings.{pressure, said}
+use Rattle.station.specs.Lacks.{lack_of}
+use Rattle.station.proofs.Soundness.{Laws, pressure_tight}
 
 -- past stands past the end of the line, and so does j
-pub found_here : (laws : Laws) (line : List Junction) (row : ℕ) (past : Junction) (o : Outcome) (s : Standing) → row / 3 < length line → length (get_or line (row / 3) past).calibration ≡ 9
-    → told (row % 3) o ≡ as_read (in_row (row % 3) (kept (pressure (get_or line (row / 3) past) (row % 3)))) → TellsLack (get_or line (row / 3) past).readings (row % 3) o → s ≡ standing_of o (get_or (get_or line (row / 3) past).dips (row % 3) None)
-    → (j : Junction) → Found (get_or line (row / 3) j) row (row % 3) (finding (get_or line (row / 3) past) row (row % 3) o s)
-found_here laws line row past o s h l out lack stands j =
-    let here : Junction = get_or line (row / 3) past in
-    let P : Junction → Type 0 = λ x. Found x row (row % 3) (finding here row (row % 3) o s) in
-    subst P (get_or_default line (row / 3) past j h) (found laws here row (row % 3) o s l out lack stands)
-
--- x is pushed behind the m findings of the first rows
-pub found_more : (line : List Junction) (row m : ℕ) (before after : List Finding) (x : Finding) → m ≡ row → AllFound line row before
-    → ((k : ℕ) (f : Finding) → k < m → get_or after k f ≡ get_or before k f) → ((f : Finding) → true ≡ true → get_or after m f ≡ x) → ((j : Junction) → Found (get_or line (row / 3) j) row (row % 3) x)
-    → AllFound line (row + 1) after
-found_more line row m before after x n sofar same last new k j f h =
-    let P : ℕ → Type 0 = λ k. (j : Junction) (f : Finding) → Found (get_or line (k / 3) j) k (k % 3) (get_or after k f) in
-    let below : (k : ℕ) → k < row → P k = λ k b j f. let u : k < m = omega arith in rw (same k f u) (sofar k j f b) in
-    let here : P row = λ j f. let e : get_or after row f ≡ x = ap (λ (i : ℕ). get_or after i f) (sym n) ∙ last f refl in rw e (new j) in
-    below_more P row below here k h j f
+pub found_here : (laws : Laws) (line : List Junction) (nth place : ℕ) (past : Junction) (o : Result Interval (NoPair Lack)) → nth < length line → place < 3 → length (get_or line nth past).calibration ≡ 9
+    → told place o ≡ as_read (in_row place (kept (pressure (get_or line nth past) place))) → TellsLack (lack_of (get_or line nth past).readings place) o
+    → (j : Junction) → Found (said (get_or line ((3 * nth + place) / 3) j) ((3 * nth + place) % 3)) (3 * nth + place) ((3 * nth + place) % 3)
+    (record { number = 3 * nth + place + 1; dip = get_or (get_or line nth past).dips place None; outcome = o; standing = standing_of o (get_or (get_or line nth past).dips place None) })
+found_here laws line nth place past o h p l out lack j =
+    let box : (3 * nth + place) / 3 ≡ nth = omega arith in
+    let tip : (3 * nth + place) % 3 ≡ place = omega arith in
+    let here : Junction = get_or line nth past in
+    let same : get_or line nth j ≡ here = get_or_default line nth j past h in
+    rw (box, tip, same) (found laws.of_cells (said here place) (3 * nth + place) place o (pressure_tight laws here place l) out lack)

@@ -1,3 +1,2 @@
 pub mod Findings
-pub mod Outcomes
-pub mod Soundness
+mod Soundness

@@ -1,17 +1,18 @@
 -- What is found of the tip at a row: everything comes from the records of that tip's own box, and the pair is as narrow as
 -- its bounds in whole steps can be.
-use Rattle.std.specs.Prelude.{◌≡◌, ℕ, ◌+◌, ◌/◌, ◌%◌, ◌<◌, List, pos, None, Ok, Err, Result, slice_index_or}
+use Rattle.std.specs.Prelude.{ℕ, ◌/◌, ◌%◌, List, pos, None, slice_index_or}
 use Rattle.arithmetic.specs.Sets.{Set}
-use Rattle.arithmetic.specs.Values.{Value, Inside, Tightly}
-use Rattle.cells.specs.declared.fault.CellFault.{CellFault}
-use Rattle.cells.specs.Cells.{IsCell, cell_at}
-use Rattle.cells.specs.Faults.{kept, in_row}
+use Rattle.arithmetic.specs.Values.{Value, Inside}
+use Rattle.cells.specs.Cells.{cell_at}
 use Rattle.layouts.specs.Matrix.{Matrix}
 use Rattle.layouts.specs.Rows.{product_cell, ProductValues}
 use Rattle.layouts.specs.Stored.{band}
+use Rattle.account.specs.declared.finding.Finding.{Finding}
+use Rattle.account.specs.Findings.{Said, AllFound as AllSaid}
+use Rattle.account.specs.Outcomes.{unity}
+use Rattle.station.specs.declared.lack.Lack.{Lack}
 use Rattle.station.specs.declared.line.Junction.{Junction}
-use Rattle.station.specs.declared.working.Finding.{Finding}
-use Rattle.station.specs.Outcomes.{told, as_read, unity, standing_of, TellsLack}
+use Rattle.station.specs.Lacks.{lack_of}
 
 -- 3 by 3, one place below the diagonal and one above
 abbrev pub calibration : Junction → Matrix
@@ -31,21 +32,10 @@ PressuresOver n j place =
 abbrev pub Pressures : Junction → ℕ → Set
 Pressures j place = PressuresOver 3 j place
 
--- a pair holds every such pressure, and each bound is less than one step from one of them; without a pair there is no such
--- pressure; past the limit no cell holds them
-abbrev pub Sound : Junction → ℕ → Result Value CellFault → Type 0
-Sound j place (Ok v) = Tightly (pos 100) (Pressures j place) v
-Sound j place (Err f) = IsCell (pressure j place) → ⊥
+-- what the records of its box say of the tip at a place
+abbrev pub said : Junction → ℕ → Said Lack
+said j place = record { pressure = pressure j place; pressures = Pressures j place; dip = slice_index_or j.dips place None; lack = lack_of j.readings place }
 
--- a row is a place of a box of three
-pub record Found (j : Junction) (row place : ℕ) (f : Finding) : Type 0 where
-  pub number : f.number ≡ row + 1
-  pub dip : f.dip ≡ slice_index_or j.dips place None
-  pub outcome : told place f.outcome ≡ as_read (in_row place (kept (pressure j place)))
-  pub lack : TellsLack j.readings place f.outcome
-  pub sound : Sound j place (told place f.outcome)
-  pub standing : f.standing ≡ standing_of f.outcome f.dip
-
--- the first n findings are those of the first n tips, in their order: a box has three
-abbrev pub AllFound : List Junction → ℕ → List Finding → Type 0
-AllFound line n fs = (k : ℕ) (j : Junction) (f : Finding) → k < n → Found (slice_index_or line (k / 3) j) k (k % 3) (slice_index_or fs k f)
+-- the first n findings are those of the first n tips, in their order: a box has three, and a row is a place of a box
+abbrev pub AllFound : List Junction → ℕ → List (Finding Lack) → Type 0
+AllFound line n fs = AllSaid (λ k j. said (slice_index_or line (k / 3) j) (k % 3)) (λ k. k % 3) n fs

@@ -1,5 +1,2 @@
-pub mod Bars
 pub mod Findings
-pub mod Groups
-pub mod Outcomes
-pub mod Texts
+pub mod Lacks

@@ -1,9 +1,7 @@
-// What a logging station works out of a line of tips: the bounds of the pore pressure at each, where its dip stands, and the
-// numbers and bars of the account.
+// What a logging station works out of a line of tips that share junction boxes: the bounds of the pore pressure at each tip, and
+// where its dip stands.
 #![tactic(auto)]
 
-pub mod bar;
-pub mod groups;
+pub mod lack;
 pub mod line;
-pub mod texts;
 pub mod working;

@@ -13,9 +13,6 @@ pub const STRIDE: usize = 3;
 
 pub const CALIBRATION_PLACES: usize = STRIDE * TIPS_OF_A_BOX;
 
-// The number of steps to one mA, to one kPa per mA and to one kPa.
-pub const UNIT: i32 = 100;
-
 // The records of a junction box, as the runs that its pressures are worked out over. Of each tip there is the reading, the
 // current of its loop in mA, the offset in kPa, and the dip, where one was taken: the pressure in kPa that the standpipe
 // beside the tip shows. Neighbouring channels of a box leak a little into one another, so the calibration is a matrix in

@@ -1,6 +1,9 @@
-use Rattle.std.proofs.Common.{◌≡◌, vec_items, vec_len}
+use Rattle.std.proofs.Common.{◌≡◌, ◌+◌, ◌*◌, vec_items, vec_len}
 use Rattle.station.specs.Findings.{AllFound}
 use Rattle.station.proofs.working.findings.Given as goal
 
-abbrev pub invariant-loop-row : goal.invariant-loop-row
-invariant-loop-row l = (vec_len l.found ≡ l.row) × AllFound l.line l.row (vec_items l.found)
+abbrev pub invariant-loop-nth : goal.invariant-loop-nth
+invariant-loop-nth l = (vec_len l.found ≡ 3 * l.nth) × AllFound l.line (3 * l.nth) (vec_items l.found)
+
+abbrev pub invariant-loop-place : goal.invariant-loop-place
+invariant-loop-place l = (vec_len l.found ≡ 3 * l.nth + l.place) × AllFound l.line (3 * l.nth + l.place) (vec_items l.found)

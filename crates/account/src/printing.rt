@@ -1,0 +1,184 @@
+// The account as it is printed: a heading, a line for each tip, a legend, the counts, and what to do next.
+use crate::finding::Finding;
+use crate::groups::{Group, Tips, count};
+use crate::outcome::{NoPair, Reason};
+use crate::units::UNIT;
+use crate::{bar, texts};
+use cells::cell::Interval;
+use rounding::rest::dividing::LIMIT;
+use std::{fmt, io};
+
+// What each program says in its own words: the lines below the scale, each with its end, and of the tips that lack something.
+#[derive(Clone, Copy)]
+pub struct Words<'a> {
+    pub notes: &'a str,
+    pub lacking: &'a str,
+}
+
+fn print_heading(rt: &(impl Print + AllocGlobal), tips: usize, notes: &str) -> io::Result<()> {
+    let limit = texts::kpa(rt.alloc(), LIMIT)?;
+    println!(rt;
+        "MONDAY ACCOUNT OF THE UPSTREAM LINE: pore pressure at {tips} tips, beside the month's standpipe dips"
+    )?;
+    println!(rt;
+        "Scale: {UNIT} steps to one unit; one step is 0.01 kPa. Limit of a bound: {LIMIT} steps, {limit} kPa."
+    )?;
+    println!(rt; "{notes}")?;
+    println!(rt;
+        "Tip   bounds in steps       bounds in kPa          dip  the dip   pair and dip on a scale in kPa"
+    )?;
+    println!(rt;
+        "       lower to   upper     lower to    upper   in kPa  lies      0         100       200       300    400"
+    )
+}
+
+fn print_pair<L>(
+    rt: &(impl Print + AllocGlobal),
+    finding: &Finding<L>,
+    pair: Interval,
+) -> io::Result<()> {
+    let lower = texts::kpa(rt.alloc(), pair.lower)?;
+    let upper = texts::kpa(rt.alloc(), pair.upper)?;
+    let bar = bar::text(rt.alloc(), pair, finding.dip)?;
+    print!(rt;
+        "{:>3}  {:>7} to {:>7}  {lower:>8} to {upper:>8}",
+        finding.number, pair.lower, pair.upper
+    )?;
+    print_dip(rt, finding)?;
+    println!(rt; "[{bar}]")
+}
+
+fn print_no_pair<L: fmt::Display>(
+    rt: &(impl Print + AllocGlobal),
+    finding: &Finding<L>,
+    no_pair: &NoPair<L>,
+) -> io::Result<()> {
+    print!(rt;
+        "{:>3}  {:>9}{:>9} {:>11}{:>10}",
+        finding.number, "-", "", "-", ""
+    )?;
+    print_dip(rt, finding)?;
+    println!(rt; "{no_pair}")
+}
+
+fn print_dip<L>(rt: &(impl Print + AllocGlobal), finding: &Finding<L>) -> io::Result<()> {
+    let dip = texts::dip(rt.alloc(), finding.dip)?;
+    print!(rt; "  {dip:>7}  {:<7}  ", finding.standing)
+}
+
+fn print_finding<L: fmt::Display>(
+    rt: &(impl Print + AllocGlobal),
+    finding: &Finding<L>,
+) -> io::Result<()> {
+    match &finding.outcome {
+        Ok(pair) => print_pair(rt, finding, *pair),
+        Err(no_pair) => print_no_pair(rt, finding, no_pair),
+    }
+}
+
+fn print_legend(rt: &impl Print) -> io::Result<()> {
+    println!(rt)?;
+    println!(rt;
+        "Bar: 10 kPa to a character; = the pair, o the dip, @ both in one; off the scale, shown at its edge."
+    )
+}
+
+fn print_counts<L: Reason>(
+    rt: &impl Print,
+    findings: &[Finding<L>],
+    lacking_words: &str,
+) -> io::Result<()> {
+    let worked_out = count(findings, Group::WorkedOut);
+    let lacking = count(findings, Group::Lacking);
+    let past_limit = count(findings, Group::PastLimit);
+    print!(rt;
+        "Tips: {worked_out} worked out, {lacking} {lacking_words}, {past_limit} past the limit. "
+    )?;
+    let inside = count(findings, Group::Inside);
+    let outside = count(findings, Group::Outside);
+    let no_dip = count(findings, Group::NoDip);
+    let not_compared = count(findings, Group::NotCompared);
+    println!(rt;
+        "Dips: {inside} inside, {outside} outside, {no_dip} none, {not_compared} not compared."
+    )
+}
+
+// What to do for the tips of each group that has any, the most pressing first.
+const TASKS: [(Group, &str); 3] = [
+    (Group::Outside, "repeat the dip at"),
+    (Group::AtFault, "inspect the instrument and cable at"),
+    (Group::NoDip, "take the dip at"),
+];
+
+fn print_next<L: Reason + Copy>(rt: &impl Print, findings: &[Finding<L>]) -> io::Result<()> {
+    print!(rt; "Next:")?;
+    // a tip whose dip lies inside leaves nothing to do
+    if count(findings, Group::Inside) == findings.len() {
+        return println!(rt; " nothing, every dip lies inside.");
+    }
+    let due = TASKS
+        .into_iter()
+        .filter(|(group, _)| count(findings, *group) > 0);
+    for (k, (group, task)) in due.enumerate() {
+        let separator = if k == 0 { "" } else { ";" };
+        print!(rt; "{separator} {task} {}", Tips { findings, group })?;
+    }
+    println!(rt; ".")
+}
+
+pub fn print<L: Reason + fmt::Display + Copy>(
+    rt: &(impl Print + AllocGlobal),
+    findings: &[Finding<L>],
+    words: Words,
+) -> io::Result<()> {
+    print_heading(rt, findings.len(), words.notes)?;
+    for finding in findings {
+        print_finding(rt, finding)?;
+    }
+    print_legend(rt)?;
+    print_counts(rt, findings, words.lacking)?;
+    print_next(rt, findings)
+}
+
+#[cfg(test)]
+mod tests {
+    use super::*;
+    use rounding::fault::Bound;
+
+    #[derive(Clone, Copy)]
+    struct Silent;
+
+    impl Reason for Silent {
+        ghost use Rattle.std.specs.Prelude.{true};
+
+        ghost own = { λ _. true };
+
+        fn is_own(&self) -> bool {
+            true
+        }
+    }
+
+    impl fmt::Display for Silent {
+        fn fmt<W: fmt::Write>(&self, f: &mut fmt::Formatter<W>) -> fmt::Result {
+            f.pad("silent")
+        }
+    }
+
+    #[test]
+    fn prints_a_pair_a_lack_and_a_bound_past_the_limit(rt: HostRuntime) -> io::Result<()> {
+        let pair = Interval {
+            lower: -23,
+            upper: 39,
+        };
+        let findings = [
+            Finding::new(1, Some(10), Ok(pair)),
+            Finding::new(2, None, Err(NoPair::Lacking(Silent))),
+            Finding::new(3, Some(20), Err(NoPair::PastLimit(Bound::Upper))),
+        ];
+        let words = Words {
+            notes: "",
+            lacking: "silent",
+        };
+        print(&rt, &findings, words)
+    }
+}

@@ -1,0 +1,51 @@
+// Why a tip has no reading.
+ghost use Rattle.std.specs.Prelude.{◌≡◌, true, Some};
+ghost use Rattle.monday.specs.Lacks.{lack_of, lack_words};
+
+use account::outcome::Reason;
+use account::records::is_blank;
+use cells::cell::{Cell, Record};
+use cells::reading::read;
+use std::fmt;
+
+#[derive(Clone, Copy)]
+pub enum Lack {
+    NothingGiven,
+    Broken,
+    Uncalibrated,
+}
+
+impl Reason for Lack {
+    // no tip is worked out with a neighbour
+    ghost own = { λ _. true };
+
+    fn is_own(&self) -> bool {
+        true
+    }
+}
+
+impl fmt::Display for Lack {
+    ghost output = { λ l. Some (lack_words l) };
+
+    fn fmt<W: fmt::Write>(&self, f: &mut fmt::Formatter<W>) -> fmt::Result {
+        f.pad(match self {
+            Lack::NothingGiven => "no reading: the instrument gave nothing",
+            Lack::Broken => "no reading: its record is broken",
+            Lack::Uncalibrated => "no reading: calibration or offset missing",
+        })
+    }
+}
+
+// Why a tip without a pair has none. The empty record is what an instrument leaves that gave nothing; a record that breaks
+// the rule of a cell was spoilt later; behind a good reading the calibration or the offset is what fails.
+pub fn why(reading: Record) -> Lack
+    ensures { result ≡ lack_of reading }
+{
+    if is_blank(reading) {
+        return Lack::NothingGiven;
+    }
+    match read(reading) {
+        Cell::Empty => Lack::Broken,
+        Cell::Bounds(_) => Lack::Uncalibrated,
+    }
+}

@@ -1,0 +1,72 @@
+// What a tip of a junction box lacks.
+ghost use Rattle.std.specs.Prelude.{◌≡◌, Some};
+ghost use Rattle.cells.specs.Cells.{cell_at};
+ghost use Rattle.layouts.specs.Filled.{is_filled};
+ghost use Rattle.station.specs.Lacks.{all_read, lack_of, own_lack, lack_words};
+
+use crate::line::TIPS_OF_A_BOX;
+use account::outcome::Reason;
+use account::records::{is_blank, record_at};
+use cells::cell::{Cell, Record};
+use cells::reading::cell_at;
+use std::fmt;
+
+#[derive(Clone, Copy)]
+pub enum Lack {
+    NothingGiven,
+    Broken,
+    NeighbourMissing,
+    Uncalibrated,
+}
+
+impl Reason for Lack {
+    ghost own = { own_lack };
+
+    fn is_own(&self) -> bool {
+        !matches!(self, Lack::NeighbourMissing)
+    }
+}
+
+impl fmt::Display for Lack {
+    ghost output = { λ l. Some (lack_words l) };
+
+    fn fmt<W: fmt::Write>(&self, f: &mut fmt::Formatter<W>) -> fmt::Result {
+        f.pad(match self {
+            Lack::NothingGiven => "no reading: the instrument gave nothing",
+            Lack::Broken => "no reading: its record is broken",
+            Lack::NeighbourMissing => "no pair: another reading of its box is missing",
+            Lack::Uncalibrated => "no pair: calibration or offset missing",
+        })
+    }
+}
+
+fn is_read(readings: &[Record; TIPS_OF_A_BOX], place: usize) -> bool
+    ensures { result ≡ is_filled (cell_at readings.now place) }
+{
+    matches!(cell_at(readings, place), Cell::Bounds(_))
+}
+
+fn are_all_read(readings: &[Record; TIPS_OF_A_BOX]) -> bool
+    ensures { result ≡ all_read readings.now }
+{
+    is_read(readings, 0) && is_read(readings, 1) && is_read(readings, 2)
+}
+
+// Why a tip without a pair has none. The empty record is what an instrument leaves that gave nothing; a record that breaks
+// the rule of a cell was spoilt later. Behind a good reading another one of the box fails, since every reading of a box
+// counts at each of its tips; and behind good readings it is the tip's calibration or its offset.
+pub fn why(readings: &[Record; TIPS_OF_A_BOX], place: usize) -> Lack
+    ensures { result ≡ lack_of readings.now place }
+{
+    if is_blank(record_at(readings, place)) {
+        return Lack::NothingGiven;
+    }
+    if !is_read(readings, place) {
+        return Lack::Broken;
+    }
+    if are_all_read(readings) {
+        Lack::Uncalibrated
+    } else {
+        Lack::NeighbourMissing
+    }
+}
