@@ -1,6 +1,6 @@
 -- Each place that a storage rule names lies inside a run of the length that fit figures have, and what is read there is the
 -- entry. Assumes nothing.
-use Rattle.std.proofs.Common.{◌≡◌, ℕ, ◌+◌, ◌-◌, ◌*◌, ◌/◌, ◌<◌, ◌≤◌, Bool, true, cond, ◌&&◌, ltb, leb, List, length, get_or, sym, ap, ◌∙◌, add-mul, one-mul, mul-one, mul-add, arith}
+use Rattle.std.proofs.Common.{◌≡◌, ℕ, ◌+◌, ◌-◌, ◌*◌, ◌/◌, ◌<◌, ◌≤◌, Bool, true, ◌&&◌, ltb, leb, List, length, get_or, sym, ap, ◌∙◌, add-mul, one-mul, mul-one, mul-add, arith}
 use Rattle.std.proofs.lemmas.Nat.{mul-le, mul-add-lt}
 use Rattle.std.proofs.lemmas.List.{get_or_default}
 use Rattle.std.proofs.lemmas.Bool.{cond-true, and_from, lt-ltb, le-leb, leb-true}
@@ -10,7 +10,7 @@ use Rattle.cells.specs.declared.cell.Record.{Record}
 use Rattle.cells.specs.Cells.{blank, read_as, cell_at}
 use Rattle.layouts.specs.declared.side.Side.{Side}
 use Rattle.layouts.specs.declared.side.Side.TheVariants.{Lower, Upper}
-use Rattle.layouts.specs.Matrix.{shaped, nothing}
+use Rattle.layouts.specs.Matrix.{fitted}
 use Rattle.layouts.specs.Sides.{on_side}
 use Rattle.layouts.specs.Stored.{dense_fit, dense_place, in_band, band_fit, band_place, band_entry, packed_fit, packed_place, packed_entry}
 
@@ -59,10 +59,10 @@ packed_inside Upper n i j h k e = upper_inside n i j k (leb-true i j e)
 
 -- ---- what is read
 -- inside the shape of fit figures, the entry is what f says
-pub shaped_entry : (fit : Bool) (rows columns i j : ℕ) (f : ℕ → ℕ → Value) → true ≡ fit → i < rows → j < columns → f i j ≡ (cond fit (shaped rows columns f) nothing).entry i j
+pub shaped_entry : (fit : Bool) (rows columns i j : ℕ) (f : ℕ → ℕ → Value) → true ≡ fit → i < rows → j < columns → f i j ≡ (fitted fit rows columns f).entry i j
 shaped_entry fit rows columns i j f e h k =
     sym (cond-true (ltb i rows && ltb j columns) (f i j) empty (and_from (ltb i rows) (ltb j columns) (lt-ltb i rows h) (lt-ltb j columns k)))
-    ∙ ap (λ (t : Bool). (cond t (shaped rows columns f) nothing).entry i j) e
+    ∙ ap (λ (t : Bool). (fitted t rows columns f).entry i j) e
 
 -- a record that was read at a place k inside the run is the cell there
 pub stored_read : (run : List Record) (at k : ℕ) (d : Record) (v : Value) → at ≡ k → k < length run → v ≡ read_as (get_or run at d) → v ≡ cell_at run k

@@ -8,7 +8,7 @@ use Rattle.arithmetic.proofs.Tests.{le_z_true}
 use Rattle.cells.specs.Cells.{IsCell}
 use Rattle.layouts.specs.declared.side.Side.{Side}
 use Rattle.layouts.specs.declared.side.Side.TheVariants.{Lower, Upper}
-use Rattle.layouts.specs.Matrix.{Matrix, Sound, shaped, shaped_sound, nothing, nothing_sound}
+use Rattle.layouts.specs.Matrix.{Matrix, Sound, shaped, shaped_sound, fitted, fitted_sound}
 use Rattle.layouts.specs.Sides.{on_side}
 use Rattle.layouts.specs.Stored.{zero_cell}
 
@@ -70,7 +70,7 @@ abbrev pub unit_fit : ℤ → Bool
 unit_fit u = int_le (pos 1) u && int_le u (pos 100000)
 
 abbrev pub unit_diagonal : ℤ → Matrix → Matrix
-unit_diagonal u m = cond (unit_fit u) (shaped m.rows m.columns (unit_entry u m.entry)) nothing
+unit_diagonal u m = fitted (unit_fit u) m.rows m.columns (unit_entry u m.entry)
 
 unit_cell : (u : ℤ) → unit_fit u ≡ true → IsCell (bounds u u)
 unit_cell u e =
@@ -79,6 +79,5 @@ unit_cell u e =
 
 pub unit_sound : (u : ℤ) (m : Matrix) → Sound m → Sound (unit_diagonal u m)
 unit_sound u m s =
-    cond_both (unit_fit u) (shaped m.rows m.columns (unit_entry u m.entry)) nothing Sound
-    (λ e. shaped_sound m.rows m.columns (unit_entry u m.entry) s.few_rows s.few_columns (λ i j. cond_both (i == j) (bounds u u) (m.entry i j) IsCell (λ t. unit_cell u e) (λ t. s.cell i j)))
-    (λ e. nothing_sound)
+    fitted_sound (unit_fit u) m.rows m.columns (unit_entry u m.entry) (λ e. s.few_rows) (λ e. s.few_columns)
+    (λ e i j. cond_both (i == j) (bounds u u) (m.entry i j) IsCell (λ t. unit_cell u e) (λ t. s.cell i j))

@@ -1,5 +1,5 @@
 -- What a layout means: a matrix of cells, rows and columns counted from 0, with at most 1,024 of each, empty outside.
-use Rattle.std.specs.Prelude.{◌≡◌, ℕ, ◌≤◌, cond, ◌&&◌, nat_lt, refl}
+use Rattle.std.specs.Prelude.{◌≡◌, ℕ, ◌≤◌, Bool, true, cond, ◌&&◌, nat_lt, refl}
 use Rattle.std.proofs.Common.{arith}
 use Rattle.std.proofs.lemmas.Bool.{cond_both, cond-false, and_left, and_right, le-ltb}
 use Rattle.arithmetic.specs.Values.{Value, empty}
@@ -38,3 +38,11 @@ nothing = record { rows = 0; columns = 0; entry = λ i j. empty }
 
 pub nothing_sound : Sound nothing
 nothing_sound = record { few_rows = omega arith; few_columns = omega arith; below = λ i j h. refl; right = λ i j h. refl; cell = λ i j. tt }
+
+-- what a storage means: the entries f where its figures are fit
+abbrev pub fitted : (fit : Bool) (rows columns : ℕ) → (ℕ → ℕ → Value) → Matrix
+fitted fit rows columns f = cond fit (shaped rows columns f) nothing
+
+pub fitted_sound : (fit : Bool) (rows columns : ℕ) (f : ℕ → ℕ → Value) → (fit ≡ true → rows ≤ 1024) → (fit ≡ true → columns ≤ 1024) → (fit ≡ true → (i j : ℕ) → IsCell (f i j)) → Sound (fitted fit rows columns f)
+fitted_sound fit rows columns f few narrow cells =
+    cond_both fit (shaped rows columns f) nothing Sound (λ e. shaped_sound rows columns f (few e) (narrow e) (cells e)) (λ e. nothing_sound)

@@ -10,7 +10,7 @@ use Rattle.cells.specs.Cells.{IsCell, blank, cell_at}
 use Rattle.cells.specs.Reading.{read_cell}
 use Rattle.layouts.specs.declared.side.Side.{Side}
 use Rattle.layouts.specs.declared.side.Side.TheVariants.{Lower, Upper}
-use Rattle.layouts.specs.Matrix.{Matrix, Sound, shaped, shaped_sound, nothing, nothing_sound}
+use Rattle.layouts.specs.Matrix.{Matrix, Sound, fitted, fitted_sound}
 use Rattle.layouts.specs.Sides.{on_side}
 
 pub zero_cell : IsCell zeros
@@ -28,13 +28,12 @@ abbrev pub dense_fit : List Record → (rows columns stride : ℕ) → Bool
 dense_fit run rows columns stride = nat_le rows 1024 && (nat_le columns 1024 && (nat_le 1 stride && (nat_le rows stride && nat_le (stride * columns) (length run))))
 
 abbrev pub dense : List Record → (rows columns stride : ℕ) → Matrix
-dense run rows columns stride = cond (dense_fit run rows columns stride) (shaped rows columns (λ i j. cell_at run (dense_place stride i j))) nothing
+dense run rows columns stride = fitted (dense_fit run rows columns stride) rows columns (λ i j. cell_at run (dense_place stride i j))
 
 pub dense_sound : (run : List Record) (rows columns stride : ℕ) → Sound (dense run rows columns stride)
 dense_sound run rows columns stride =
-    cond_both (dense_fit run rows columns stride) (shaped rows columns (λ i j. cell_at run (dense_place stride i j))) nothing Sound
-    (λ e. shaped_sound rows columns (λ i j. cell_at run (dense_place stride i j)) (leb-true rows 1024 (and_parts _ _ e).0) (leb-true columns 1024 (and_parts _ _ (and_parts _ _ e).1).0) (λ i j. stored_cell run (dense_place stride i j)))
-    (λ e. nothing_sound)
+    fitted_sound (dense_fit run rows columns stride) rows columns (λ i j. cell_at run (dense_place stride i j))
+    (λ e. leb-true rows 1024 (and_parts _ _ e).0) (λ e. leb-true columns 1024 (and_parts _ _ (and_parts _ _ e).1).0) (λ e i j. stored_cell run (dense_place stride i j))
 
 -- ---- band: of each column the kl places below the diagonal, the diagonal and the ku places above it; [0, 0] elsewhere
 
@@ -51,14 +50,13 @@ abbrev pub band_fit : List Record → (rows columns kl ku stride : ℕ) → Bool
 band_fit run rows columns kl ku stride = nat_le rows 1024 && (nat_le columns 1024 && (nat_le kl 1023 && (nat_le ku 1023 && (nat_le (kl + ku + 1) stride && nat_le (stride * columns) (length run)))))
 
 abbrev pub band : List Record → (rows columns kl ku stride : ℕ) → Matrix
-band run rows columns kl ku stride = cond (band_fit run rows columns kl ku stride) (shaped rows columns (band_entry run kl ku stride)) nothing
+band run rows columns kl ku stride = fitted (band_fit run rows columns kl ku stride) rows columns (band_entry run kl ku stride)
 
 pub band_sound : (run : List Record) (rows columns kl ku stride : ℕ) → Sound (band run rows columns kl ku stride)
 band_sound run rows columns kl ku stride =
-    cond_both (band_fit run rows columns kl ku stride) (shaped rows columns (band_entry run kl ku stride)) nothing Sound
-    (λ e. shaped_sound rows columns (band_entry run kl ku stride) (leb-true rows 1024 (and_parts _ _ e).0) (leb-true columns 1024 (and_parts _ _ (and_parts _ _ e).1).0)
-    (λ i j. cond_both (in_band kl ku i j) (cell_at run (band_place ku stride i j)) zeros IsCell (λ t. stored_cell run (band_place ku stride i j)) (λ t. zero_cell)))
-    (λ e. nothing_sound)
+    fitted_sound (band_fit run rows columns kl ku stride) rows columns (band_entry run kl ku stride)
+    (λ e. leb-true rows 1024 (and_parts _ _ e).0) (λ e. leb-true columns 1024 (and_parts _ _ (and_parts _ _ e).1).0)
+    (λ e i j. cond_both (in_band kl ku i j) (cell_at run (band_place ku stride i j)) zeros IsCell (λ t. stored_cell run (band_place ku stride i j)) (λ t. zero_cell))
 
 -- ---- packed: the columns of one triangle of side n, one after the other; [0, 0] on the other side
 
@@ -73,11 +71,9 @@ abbrev pub packed_fit : List Record → (n : ℕ) → Bool
 packed_fit run n = nat_le n 1024 && length run == n * (n + 1) / 2
 
 abbrev pub packed : List Record → Side → (n : ℕ) → Matrix
-packed run side n = cond (packed_fit run n) (shaped n n (packed_entry run side n)) nothing
+packed run side n = fitted (packed_fit run n) n n (packed_entry run side n)
 
 pub packed_sound : (run : List Record) (side : Side) (n : ℕ) → Sound (packed run side n)
 packed_sound run side n =
-    cond_both (packed_fit run n) (shaped n n (packed_entry run side n)) nothing Sound
-    (λ e. shaped_sound n n (packed_entry run side n) (leb-true n 1024 (and_parts _ _ e).0) (leb-true n 1024 (and_parts _ _ e).0)
-    (λ i j. cond_both (on_side side i j) (cell_at run (packed_place side n i j)) zeros IsCell (λ t. stored_cell run (packed_place side n i j)) (λ t. zero_cell)))
-    (λ e. nothing_sound)
+    fitted_sound (packed_fit run n) n n (packed_entry run side n) (λ e. leb-true n 1024 (and_parts _ _ e).0) (λ e. leb-true n 1024 (and_parts _ _ e).0)
+    (λ e i j. cond_both (on_side side i j) (cell_at run (packed_place side n i j)) zeros IsCell (λ t. stored_cell run (packed_place side n i j)) (λ t. zero_cell))
