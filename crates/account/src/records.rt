@@ -16,5 +16,5 @@ pub fn record_at(run: &[Record], place: usize) -> Record
 pub fn is_blank(record: Record) -> bool
     ensures { result ≡ is_blank «record» }
 {
-    record.lower == EMPTY.lower && record.upper == EMPTY.upper
+    record == EMPTY
 }

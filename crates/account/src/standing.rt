@@ -5,7 +5,8 @@ ghost use Rattle.cells.specs.Questions.{nested};
 ghost use Rattle.account.specs.Standings.{standing_of, standing_words};
 
 use crate::outcome::Outcome;
-use cells::cell::{Cell, Interval, Record};
+use cells::cell::{Interval, Record};
+use cells::questions::inside;
 use cells::reading::read;
 use std::fmt;
 
@@ -36,12 +37,9 @@ impl fmt::Display for Standing {
 pub fn holds(pair: Interval, dip: i32) -> bool
     ensures { result ≡ nested (bounds dip dip) (bounds pair.lower pair.upper) }
 {
-    match read(Record {
-        lower: dip,
-        upper: dip,
-    }) {
-        Cell::Empty => false,
-        point => point.inside(Cell::Bounds(pair)),
+    match read(Record::from((dip, dip))) {
+        None => false,
+        point => inside(point, Some(pair)),
     }
 }
 

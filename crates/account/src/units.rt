@@ -18,7 +18,7 @@ pub fn scale() -> Scale
 pub fn one() -> Cell
     ensures { cell_value result ≡ unity }
 {
-    Cell::Bounds(Interval {
+    Some(Interval {
         lower: UNIT,
         upper: UNIT,
     })

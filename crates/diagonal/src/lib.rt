@@ -2,15 +2,14 @@
 // docs/ADDING-A-LAYOUT.md goes through it line by line.
 #![tactic(auto)]
 
-ghost use Rattle.std.specs.Prelude.{◌≡◌, ◌+◌, ltb, if◌then◌else◌};
+ghost use Rattle.std.specs.Prelude.{◌≡◌, ◌+◌, ◌≤◌, ltb, if◌then◌else◌};
 ghost use Rattle.layouts.specs.declared.side.Side.TheVariants.{Lower};
 ghost use Rattle.diagonal.specs.Diagonal.{diagonal, diagonal_sound};
 
-use cells::cell::{Cell, Interval, Record};
+use cells::cell::{Cell, Interval, Places, Record};
 use cells::reading::cell_at;
 use layouts::layout::{Layout, Triangular};
 use layouts::side::Side;
-use layouts::span::Span;
 
 // Entry (i, i) is the record at i, every other entry is [0, 0]. A run of more than 1,024 records means the 0 by 0 matrix.
 #[derive(Clone, Copy)]
@@ -19,16 +18,18 @@ pub struct Diagonal<'a> {
 }
 
 // Of a row and of a column alike, only the place on the diagonal can hold other than [0, 0]; outside the shape nothing is said.
-fn only(place: usize, n: usize) -> Span
-    ensures { result ≡ (if ltb place n then (record { from = place; to = place + 1 }) else (record { from = 0; to = n })) }
+fn only(place: usize, n: usize) -> Places
+    requires { n ≤ 1024 }
+    ensures from { result.from ≡ (if ltb place n then place else 0) }
+    ensures to { result.to ≡ (if ltb place n then place + 1 else n) }
 {
     if place < n {
-        Span {
+        Places {
             from: place,
             to: place + 1,
         }
     } else {
-        Span { from: 0, to: n }
+        Places { from: 0, to: n }
     }
 }
 
@@ -52,20 +53,20 @@ impl Layout for Diagonal<'_> {
     fn entry(&self, row: usize, column: usize) -> Cell {
         let n = self.rows();
         if row >= n || column >= n {
-            return Cell::Empty;
+            return None;
         }
         if row == column {
             cell_at(self.run, row)
         } else {
-            Cell::Bounds(Interval { lower: 0, upper: 0 })
+            Some(Interval { lower: 0, upper: 0 })
         }
     }
 
-    fn across(&self, row: usize) -> Span {
+    fn across(&self, row: usize) -> Places {
         only(row, self.rows())
     }
 
-    fn down(&self, column: usize) -> Span {
+    fn down(&self, column: usize) -> Places {
         only(column, self.rows())
     }
 }

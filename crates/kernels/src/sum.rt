@@ -19,12 +19,12 @@ impl From<Total> for SumRecord {
 
     fn from(total: Total) -> SumRecord {
         match total {
-            Total::Empty => SumRecord {
+            None => SumRecord {
                 filled: false,
                 least: 0,
                 greatest: 0,
             },
-            Total::Bounds(t) => SumRecord {
+            Some(t) => SumRecord {
                 filled: true,
                 least: t.least,
                 greatest: t.greatest,

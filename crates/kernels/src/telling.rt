@@ -33,7 +33,7 @@ fn swept<const N: usize, L: Layout>(layout: &L, xs: &[Record], sums: &mut [SumRe
     requires few { N ≤ 1024 }
     ensures { map sum_told sums.new ≡ map (row_sum (L.Layout.meaning layout.now) (cell_at xs.now)) (range_with_len 0 (length sums.old)) }
 {
-    let mut places = [Total::Empty; N];
+    let mut places = [None; N];
     let totals = &mut places[..sums.len()];
     product_sums(layout, Vector::of(xs), totals);
     tell_all(totals, sums);

@@ -4,7 +4,7 @@ ghost use Rattle.monday.specs.Lacks.{lack_of, lack_words};
 
 use account::outcome::Reason;
 use account::records::is_blank;
-use cells::cell::{Cell, Record};
+use cells::cell::Record;
 use cells::reading::read;
 use std::fmt;
 
@@ -45,7 +45,7 @@ pub fn why(reading: Record) -> Lack
         return Lack::NothingGiven;
     }
     match read(reading) {
-        Cell::Empty => Lack::Broken,
-        Cell::Bounds(_) => Lack::Uncalibrated,
+        None => Lack::Broken,
+        Some(_) => Lack::Uncalibrated,
     }
 }

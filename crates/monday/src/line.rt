@@ -18,10 +18,6 @@ pub struct Tip {
 // The reading of an instrument that gave nothing.
 const NOTHING: (i32, i32) = (EMPTY.lower, EMPTY.upper);
 
-fn pair((lower, upper): (i32, i32)) -> Record {
-    Record { lower, upper }
-}
-
 impl Tip {
     fn new(
         reading: (i32, i32),
@@ -30,9 +26,9 @@ impl Tip {
         dip: Option<i32>,
     ) -> Tip {
         Tip {
-            reading: pair(reading),
-            calibration: pair(calibration),
-            offset: pair(offset),
+            reading: Record::from(reading),
+            calibration: Record::from(calibration),
+            offset: Record::from(offset),
             dip,
         }
     }

@@ -13,7 +13,7 @@ use account::finding::Finding;
 use account::outcome::{NoPair, Outcome};
 use account::records::record_at;
 use account::units::{one, scale};
-use cells::cell::{Cell, Factors};
+use cells::cell::{Factors, Target};
 use cells::formulas::blend;
 use cells::laws::laws_stand;
 use cells::reading::{cell_at, read};
@@ -27,20 +27,18 @@ pub fn work_out(rounding: &mut Rounding, line: &Line, row: usize) -> Outcome<Lac
     ensures lack { TellsLack (lack_of (slice_index_or line.now.readings row blank)) result }
 {
     let factors = Factors {
+        scale: scale(),
         alpha: cell_at(&line.calibrations, row),
         beta: one(),
     };
-    let record = blend(
-        rounding,
-        scale(),
-        factors,
-        &line.offsets,
+    let target = Target {
+        column: &line.offsets,
         row,
-        &line.readings,
-    )?;
+    };
+    let record = blend(rounding, factors, target, &line.readings)?;
     match read(record) {
-        Cell::Empty => Err(NoPair::Lacking(why(record_at(&line.readings, row)))),
-        Cell::Bounds(pair) => Ok(pair),
+        None => Err(NoPair::Lacking(why(record_at(&line.readings, row)))),
+        Some(pair) => Ok(pair),
     }
 }
 

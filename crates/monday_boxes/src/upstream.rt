@@ -7,12 +7,8 @@ type Pair = (i32, i32);
 // The reading of an instrument that gave nothing.
 const NOTHING: Pair = (EMPTY.lower, EMPTY.upper);
 
-fn record((lower, upper): Pair) -> Record {
-    Record { lower, upper }
-}
-
 fn records(pairs: [Pair; TIPS_OF_A_BOX]) -> [Record; TIPS_OF_A_BOX] {
-    pairs.map(record)
+    pairs.map(Record::from)
 }
 
 // Band storage, column after column, each from above the diagonal to below it. The first column has nothing above and the
@@ -20,13 +16,13 @@ fn records(pairs: [Pair; TIPS_OF_A_BOX]) -> [Record; TIPS_OF_A_BOX] {
 fn band(diagonal: [Pair; 3], below: [Pair; 2], above: [Pair; 2]) -> [Record; CALIBRATION_PLACES] {
     [
         EMPTY,
-        record(diagonal[0]),
-        record(below[0]),
-        record(above[0]),
-        record(diagonal[1]),
-        record(below[1]),
-        record(above[1]),
-        record(diagonal[2]),
+        Record::from(diagonal[0]),
+        Record::from(below[0]),
+        Record::from(above[0]),
+        Record::from(diagonal[1]),
+        Record::from(below[1]),
+        Record::from(above[1]),
+        Record::from(diagonal[2]),
         EMPTY,
     ]
 }

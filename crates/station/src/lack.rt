@@ -7,7 +7,7 @@ ghost use Rattle.station.specs.Lacks.{all_read, lack_of, own_lack, lack_words};
 use crate::line::TIPS_OF_A_BOX;
 use account::outcome::Reason;
 use account::records::{is_blank, record_at};
-use cells::cell::{Cell, Record};
+use cells::cell::Record;
 use cells::reading::cell_at;
 use std::fmt;
 
@@ -43,7 +43,7 @@ impl fmt::Display for Lack {
 fn is_read(readings: &[Record; TIPS_OF_A_BOX], place: usize) -> bool
     ensures { result ≡ is_filled (cell_at readings.now place) }
 {
-    matches!(cell_at(readings, place), Cell::Bounds(_))
+    cell_at(readings, place).is_some()
 }
 
 fn are_all_read(readings: &[Record; TIPS_OF_A_BOX]) -> bool

@@ -12,7 +12,7 @@ use crate::line::{BOXES, Junction, STRIDE, TIPS_OF_A_BOX};
 use account::finding::Finding;
 use account::outcome::{NoPair, Outcome};
 use account::units::{one, scale};
-use cells::cell::{Cell, Factors, Record};
+use cells::cell::{Factors, Record, Target};
 use cells::fault::CellFault;
 use cells::reading::read;
 use layouts::band::Band;
@@ -31,6 +31,7 @@ fn pressure_at(
     ensures { result ≡ product_at (pos 100) (band junction.now.calibration 3 3 1 1 3) unity unity junction.now.offsets place junction.now.readings }
 {
     let factors = Factors {
+        scale: scale(),
         alpha: one(),
         beta: one(),
     };
@@ -42,16 +43,12 @@ fn pressure_at(
         above: 1,
         stride: STRIDE,
     };
+    let target = Target {
+        column: &junction.offsets,
+        row: place,
+    };
     let readings = Vector::of(&junction.readings);
-    product_cell(
-        rounding,
-        scale(),
-        factors,
-        &calibration,
-        &junction.offsets,
-        place,
-        readings,
-    )
+    product_cell(rounding, factors, &calibration, target, readings)
 }
 
 // What became of the tip at a place of a box.
@@ -61,8 +58,8 @@ pub fn work_out(rounding: &mut Rounding, junction: &Junction, place: usize) -> O
 {
     let record = pressure_at(rounding, junction, place)?;
     match read(record) {
-        Cell::Empty => Err(NoPair::Lacking(why(&junction.readings, place))),
-        Cell::Bounds(pair) => Ok(pair),
+        None => Err(NoPair::Lacking(why(&junction.readings, place))),
+        Some(pair) => Ok(pair),
     }
 }
 

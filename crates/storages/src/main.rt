@@ -26,10 +26,7 @@ const SIDES: [Side; 2] = [Side::Lower, Side::Upper];
 fn numbered() -> [Record; PLACES] {
     array::from_fn(|k| {
         let steps = UNIT * (k as i32 + 2);
-        Record {
-            lower: steps,
-            upper: steps,
-        }
+        Record::from((steps, steps))
     })
 }
 
@@ -80,9 +77,9 @@ struct Printed(Cell);
 impl fmt::Display for Printed {
     fn fmt<W: fmt::Write>(&self, f: &mut fmt::Formatter<W>) -> fmt::Result {
         match self.0 {
-            Cell::Empty => write!(f, "-"),
-            Cell::Bounds(pair) if pair.lower == pair.upper => write!(f, "{}", pair.lower),
-            Cell::Bounds(pair) => write!(f, "{}..{}", pair.lower, pair.upper),
+            None => write!(f, "-"),
+            Some(pair) if pair.lower == pair.upper => write!(f, "{}", pair.lower),
+            Some(pair) => write!(f, "{}..{}", pair.lower, pair.upper),
         }
     }
 }
