@@ -11,6 +11,7 @@ fn minus(steps: i32) -> &'static str
 }
 
 // Steps as kPa with two decimals. The sign is written apart, since the whole number of -0.03 could not carry it.
+// A text and no `Display`: the table pads it, and only a text that is there as a whole can be padded.
 pub fn kpa(heap: Global, steps: i32) -> Result<String, AllocError>
     ensures { IfOk result (λ s. string_bytes s ≡ kpa_text steps) }
 {

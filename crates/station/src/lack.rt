@@ -8,7 +8,7 @@ use crate::line::TIPS_OF_A_BOX;
 use account::outcome::Reason;
 use account::records::{is_blank, record_at};
 use cells::cell::Record;
-use cells::reading::cell_at;
+use cells::reading::{cell_at, read};
 use std::fmt;
 
 #[derive(Clone, Copy)]
@@ -49,7 +49,9 @@ fn is_read(readings: &[Record; TIPS_OF_A_BOX], place: usize) -> bool
 fn are_all_read(readings: &[Record; TIPS_OF_A_BOX]) -> bool
     ensures { result ≡ all_read readings.now }
 {
-    is_read(readings, 0) && is_read(readings, 1) && is_read(readings, 2)
+    readings
+        .iter()
+        .all(|reading| read(*reading).is_some())
 }
 
 // Why a tip without a pair has none. The empty record is what an instrument leaves that gave nothing; a record that breaks

@@ -1,8 +1,6 @@
 // What the logging station holds of a junction box, in steps.
 use cells::cell::Record;
 
-pub const TIPS: usize = 12;
-
 pub const BOXES: usize = 4;
 
 // How many neighbouring tips are read by one junction box.

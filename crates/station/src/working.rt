@@ -73,6 +73,7 @@ pub fn findings(heap: Global, line: &[Junction; BOXES]) -> Result<Vec<Finding<La
     let mut rounding = Rounding::new();
     let mut found = Vec::new(heap);
     for (nth, junction) in line.iter().enumerate() {
+        // a place is one in every run of the box
         for place in 0..TIPS_OF_A_BOX {
             let row = TIPS_OF_A_BOX * nth + place;
             let outcome = work_out(&mut rounding, junction, place);
