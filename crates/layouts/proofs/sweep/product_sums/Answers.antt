@@ -1,8 +1,8 @@
-use Rattle.std.proofs.Common.{◌≡◌, ℕ, ◌+◌, ◌-◌, ◌*◌, ◌<◌, ◌≤◌, List, length, get_or, take, drop, length-drop, replicate, sym, subst, ap, ◌∙◌, ⊎_elim, rules, arith}
+use Rattle.std.proofs.Common.{◌≡◌, ℕ, ◌+◌, ◌-◌, ◌*◌, ◌<◌, ◌≤◌, List, length, get_or, take, drop, length-drop, replicate, sym, ap, ◌∙◌, ⊎_elim, rules, arith}
 use Rattle.std.proofs.lemmas.Bool.{cases_lt}
 use Rattle.std.proofs.lemmas.List.{get_or-replicate, length-take}
 use Rattle.std.proofs.Math.Seq.{of_parts}
-use Rattle.arithmetic.specs.Values.{Value, empty, zeros, times, total, Small}
+use Rattle.arithmetic.specs.Values.{Value, empty, times, total}
 use Rattle.arithmetic.proofs.Sizes.{small_more}
 use Rattle.cells.specs.declared.cell.Total.{Total}
 use Rattle.cells.specs.declared.cell.Total.TheVariants.{Empty}
@@ -21,14 +21,6 @@ returns-then-xs-columns g c =
     λ k. lacked m x.run.now k 0 m.columns (record { place = x.filled; least = omega arith; most = omega (arith, c.columns-columns.ensures, c.if-xs-columns.true); lacks = x.next }) in
     all_sums (row_sum m (cell_at x.run.now)) c.fill.new.self n c.fill.ensures.len
     (λ k h. ap (λ (l : List Total). total_value (get_or l k Empty)) filled ∙ ap total_value (get_or-replicate n k Empty Empty h) ∙ sym (none k))
-
-pub loop-column-init : goal.loop-column-init
-loop-column-init g c =
-    let n = length c.args.sums.now in let zero = c.no_terms.result in
-    let filled : c.fill-2.new.self ≡ replicate n zero = c.fill-2.ensures.after (λ y h. search rules) in
-    let here : (k : ℕ) → k < length c.fill-2.new.self → total_value (get_or c.fill-2.new.self k Empty) ≡ zeros =
-    λ k h. ap (λ (l : List Total). total_value (get_or l k Empty)) filled ∙ ap total_value (get_or-replicate n k zero Empty (omega (arith, h, c.fill-2.ensures.len))) ∙ c.no_terms.ensures in
-    (λ k h r. here k h, λ k h. let P : Value → Type 0 = Small 0 in subst P (sym (here k h)) (search rules), λ e. here)
 
 pub add_column-requires-clause-filled : goal.add_column-requires-clause-filled
 add_column-requires-clause-filled g c =
