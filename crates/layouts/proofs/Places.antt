@@ -21,9 +21,6 @@ dense_fits run rows columns stride e = (grind (arith, nat_tests), grind (arith, 
 band_fits : (run : List Record) (rows columns kl ku stride : ℕ) → true ≡ band_fit run rows columns kl ku stride → (kl + ku + 1 ≤ stride) × (stride * columns ≤ length run)
 band_fits run rows columns kl ku stride e = (grind (arith, nat_tests), grind (arith, nat_tests))
 
-pub band_small : (run : List Record) (rows columns kl ku stride : ℕ) → true ≡ band_fit run rows columns kl ku stride → (rows ≤ 1024) × (ku ≤ 1023)
-band_small run rows columns kl ku stride e = (grind (arith, nat_tests), grind (arith, nat_tests))
-
 pub packed_fits : (run : List Record) (n : ℕ) → true ≡ packed_fit run n → length run ≡ n * (n + 1) / 2
 packed_fits run n e = grind (arith, nat_tests)
 

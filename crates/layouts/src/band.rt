@@ -74,18 +74,20 @@ impl Layout for Band<'_> {
     }
 
     fn across(&self, row: usize) -> Places {
+        let columns = all(self.columns());
         if row < self.rows() {
-            near(row, self.below, self.above, self.columns())
+            near(row, self.below, self.above, columns)
         } else {
-            all(self.columns())
+            columns
         }
     }
 
     fn down(&self, column: usize) -> Places {
+        let rows = all(self.rows());
         if column < self.columns() {
-            near(column, self.above, self.below, self.rows())
+            near(column, self.above, self.below, rows)
         } else {
-            all(self.rows())
+            rows
         }
     }
 }

@@ -1,4 +1,4 @@
-// The figures of a storage - how many rows, how long a column - are numbers as supplied: they may fit the storage or not.
+// The figures of a storage, such as how many rows it has, are numbers as supplied: they may fit it or not.
 ghost use Rattle.std.specs.Prelude.{◌≡◌, Bool, ◌*◌, nat_le};
 ghost use Rattle.layouts.specs.Refusals.{Checked};
 

@@ -14,7 +14,7 @@ pub(crate) fn smaller<L: Layout>(layout: &L) -> usize
     layout.rows().min(layout.columns())
 }
 
-// All of n places.
+// All places of a line of n.
 pub(crate) fn all(n: usize) -> Places
     requires { n ≤ 1024 }
     ensures { (result.from ≡ 0) × (result.to ≡ n) }
@@ -22,34 +22,33 @@ pub(crate) fn all(n: usize) -> Places
     Places { from: 0, to: n }
 }
 
-// Of n places, those from `before` places before one to `after` places after it.
-pub(crate) fn near(place: usize, before: usize, after: usize, n: usize) -> Places
-    requires place { place < 1024 }
-    requires after { after < 1024 }
-    requires n { n ≤ 1024 }
-    ensures { (result.to ≡ min n (place + after + 1)) × (result.from ≡ min result.to (place - before)) }
+// Of all places of a line, those from `before` places before one to `after` places after it.
+pub(crate) fn near(place: usize, before: usize, after: usize, all: Places) -> Places
+    ensures { (result.to ≡ min all.to (place + after + 1)) × (result.from ≡ min result.to (place - before)) }
 {
-    let to = n.min(place + after + 1);
+    let to = all.to.min(place.saturating_add(after).saturating_add(1));
     Places {
         from: to.min(place.saturating_sub(before)),
         to,
     }
 }
 
-// Of the n places of a line, those that are on a side, its place on the diagonal among them; all where it has none there.
-pub(crate) fn half(side: Side, diagonal: usize, n: usize) -> Places
-    requires { n ≤ 1024 }
-    ensures all { n ≤ diagonal → (result.from ≡ 0) × (result.to ≡ n) }
-    ensures half { diagonal < n → (result.from ≡ half_from side diagonal) × (result.to ≡ half_to side diagonal n) }
+// Of all places of a line, those that are on a side, its place on the diagonal among them; all where it has none there.
+pub(crate) fn half(side: Side, diagonal: usize, all: Places) -> Places
+    ensures all { all.to ≤ diagonal → (result.from ≡ all.from) × (result.to ≡ all.to) }
+    ensures half { diagonal < all.to → (result.from ≡ half_from side diagonal) × (result.to ≡ half_to side diagonal all.to) }
 {
-    if diagonal >= n {
-        return all(n);
+    if diagonal >= all.to {
+        return all;
     }
     match side {
-        Side::Lower => all(diagonal + 1),
+        Side::Lower => Places {
+            from: 0,
+            to: diagonal + 1,
+        },
         Side::Upper => Places {
             from: diagonal,
-            to: n,
+            to: all.to,
         },
     }
 }
@@ -62,16 +61,5 @@ pub(crate) fn overlap(places: Places, others: Places) -> Places
     Places {
         from: to.min(others.from.max(places.from)),
         to,
-    }
-}
-
-// The places from the first to the last of these and of one more.
-pub(crate) fn with_place(places: Places, place: usize) -> Places
-    requires { place < 1024 }
-    ensures { (result.from ≡ min place places.from) × (result.to ≡ max (place + 1) places.to) }
-{
-    Places {
-        from: place.min(places.from),
-        to: (place + 1).max(places.to),
     }
 }

@@ -15,14 +15,13 @@ pub struct Symmetric<L> {
 }
 
 // The places of a row that has its places before the diagonal from some and those behind it from others.
-fn around(row: usize, n: usize, before: Places, after: Places) -> Places
-    requires row { row < n }
-    requires n { n ≤ 1024 }
-    ensures { (result.from ≡ min row before.from) × (result.to ≡ max (row + 1) (min n after.to)) }
+fn around(row: usize, all: Places, before: Places, after: Places) -> Places
+    requires { row < all.to }
+    ensures { (result.from ≡ min row before.from) × (result.to ≡ max (row + 1) (min all.to after.to)) }
 {
     Places {
         from: row.min(before.from),
-        to: n.min(after.to).max(row + 1),
+        to: all.to.min(after.to).max(row + 1),
     }
 }
 
@@ -52,14 +51,14 @@ impl<L: Layout> Layout for Symmetric<L> {
     }
 
     fn across(&self, row: usize) -> Places {
-        let n = smaller(&self.below);
-        if row < n {
+        let all = all(smaller(&self.below));
+        if row < all.to {
             match self.side {
-                Side::Lower => around(row, n, self.below.across(row), self.below.down(row)),
-                Side::Upper => around(row, n, self.below.down(row), self.below.across(row)),
+                Side::Lower => around(row, all, self.below.across(row), self.below.down(row)),
+                Side::Upper => around(row, all, self.below.down(row), self.below.across(row)),
             }
         } else {
-            all(n)
+            all
         }
     }
 

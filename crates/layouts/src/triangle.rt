@@ -5,7 +5,7 @@ ghost use Rattle.layouts.specs.Spans.{half_from, half_to};
 
 use crate::entries::{is_on, zero};
 use crate::layout::{Layout, Triangular};
-use crate::lines::{half, overlap, smaller};
+use crate::lines::{all, half, overlap, smaller};
 use crate::side::Side;
 use cells::cell::{Cell, Places};
 
@@ -16,14 +16,13 @@ pub struct Triangle<L> {
     pub side: Side,
 }
 
-// Of the n places of a line, those below that are on a side; all where the line has no place on the diagonal.
-fn line(side: Side, diagonal: usize, n: usize, below: Places) -> Places
-    requires { n ≤ 1024 }
-    ensures all { n ≤ diagonal → (result.from ≡ 0) × (result.to ≡ n) }
-    ensures kept { diagonal < n → (result.to ≡ min (half_to side diagonal n) (max (half_from side diagonal) below.to)) × (result.from ≡ min result.to (max (half_from side diagonal) below.from)) }
+// Of all places of a line, those below that are on a side; all where the line has none on the diagonal.
+fn line(side: Side, diagonal: usize, all: Places, below: Places) -> Places
+    ensures all { all.to ≤ diagonal → (result.from ≡ all.from) × (result.to ≡ all.to) }
+    ensures kept { diagonal < all.to → (result.to ≡ min (half_to side diagonal all.to) (max (half_from side diagonal) below.to)) × (result.from ≡ min result.to (max (half_from side diagonal) below.from)) }
 {
-    let places = half(side, diagonal, n);
-    if diagonal < n {
+    let places = half(side, diagonal, all);
+    if diagonal < all.to {
         overlap(below, places)
     } else {
         places
@@ -57,16 +56,13 @@ impl<L: Layout> Layout for Triangle<L> {
     }
 
     fn across(&self, row: usize) -> Places {
-        line(self.side, row, smaller(&self.below), self.below.across(row))
+        let all = all(smaller(&self.below));
+        line(self.side, row, all, self.below.across(row))
     }
 
     fn down(&self, column: usize) -> Places {
-        line(
-            self.side.opposite(),
-            column,
-            smaller(&self.below),
-            self.below.down(column),
-        )
+        let all = all(smaller(&self.below));
+        line(self.side.opposite(), column, all, self.below.down(column))
     }
 }
 

@@ -6,7 +6,7 @@ ghost use Rattle.layouts.specs.Layers.{smaller as smaller-of, unit_fit, unit_dia
 
 use crate::figures::Figures;
 use crate::layout::{Layout, Triangular};
-use crate::lines::{all, smaller, with_place};
+use crate::lines::{all, smaller};
 use crate::side::Side;
 use cells::cell::{Cell, Interval, Places};
 
@@ -48,7 +48,10 @@ impl<T: Triangular> UnitDiagonal<T> {
         if !self.is_fit() {
             all(0)
         } else if diagonal < smaller(&self.below) {
-            with_place(below, diagonal)
+            Places {
+                from: diagonal.min(below.from),
+                to: (diagonal + 1).max(below.to),
+            }
         } else {
             below
         }

@@ -1,6 +1,6 @@
 // What a tip of a junction box lacks.
 ghost use Rattle.std.specs.Prelude.{◌≡◌, Some};
-ghost use Rattle.cells.specs.Cells.{cell_at};
+ghost use Rattle.cells.specs.Cells.{read_as};
 ghost use Rattle.layouts.specs.Filled.{is_filled};
 ghost use Rattle.station.specs.Lacks.{all_read, lack_of, own_lack, lack_words};
 
@@ -8,7 +8,7 @@ use crate::line::TIPS_OF_A_BOX;
 use account::outcome::Reason;
 use account::records::{is_blank, record_at};
 use cells::cell::Record;
-use cells::reading::{cell_at, read};
+use cells::reading::read;
 use std::fmt;
 
 #[derive(Clone, Copy)]
@@ -40,18 +40,16 @@ impl fmt::Display for Lack {
     }
 }
 
-fn is_read(readings: &[Record; TIPS_OF_A_BOX], place: usize) -> bool
-    ensures { result ≡ is_filled (cell_at readings.now place) }
+fn is_read(reading: Record) -> bool
+    ensures { result ≡ is_filled (read_as reading) }
 {
-    cell_at(readings, place).is_some()
+    read(reading).is_some()
 }
 
 fn are_all_read(readings: &[Record; TIPS_OF_A_BOX]) -> bool
     ensures { result ≡ all_read readings.now }
 {
-    readings
-        .iter()
-        .all(|reading| read(*reading).is_some())
+    readings.iter().all(|reading| is_read(*reading))
 }
 
 // Why a tip without a pair has none. The empty record is what an instrument leaves that gave nothing; a record that breaks
@@ -60,10 +58,11 @@ fn are_all_read(readings: &[Record; TIPS_OF_A_BOX]) -> bool
 pub fn why(readings: &[Record; TIPS_OF_A_BOX], place: usize) -> Lack
     ensures { result ≡ lack_of readings.now place }
 {
-    if is_blank(record_at(readings, place)) {
+    let own = record_at(readings, place);
+    if is_blank(own) {
         return Lack::NothingGiven;
     }
-    if !is_read(readings, place) {
+    if !is_read(own) {
         return Lack::Broken;
     }
     if are_all_read(readings) {

@@ -1,5 +1,4 @@
 use Rattle.std.proofs.Common.{◌≡◌, ℕ, ◌+◌, ◌-◌, ◌<◌, ◌≤◌, Bool, true, subst, ◌∙◌, sym, rules, arith}
-use Rattle.std.proofs.iter.runs.Sources.{ranges}
 use Rattle.std.proofs.lemmas.Iterator.Search.{all_from_yields_List}
 use Rattle.std.proofs.lemmas.Iterator.{YieldsList-from_range}
 use Rattle.std.proofs.lemmas.List.FromFn.{length-range_with_len, get_or-range_with_len}
@@ -21,6 +20,3 @@ returns-clause-yes c e k a b =
     let p : ℕ → Bool = λ k. is_filled (cell_at c.args.run.now k) in let from = c.args.places.from in let n = c.args.places.to - from in
     let all = all_from_yields_List p _ _ _ c.all.ensures.ran (YieldsList-from_range from c.args.places.to n (search rules) (search rules)) (λ x b q k. search (rules, tests)) in
     each p from n k (sym all ∙ e) a (omega arith)
-
-pub returns-clause-no : goal.returns-clause-no
-returns-clause-no c = search (rules, ranges)

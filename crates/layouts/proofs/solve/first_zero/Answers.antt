@@ -1,6 +1,6 @@
-use Rattle.std.proofs.Common.{◌≡◌, ℕ, Option, None, Some, refl, ap, ◌∙◌, map, rules}
-use Rattle.std.specs.Option.{option_map}
+use Rattle.std.proofs.Common.{◌≡◌, ℕ, refl, sym, ap, ◌∙◌, map, rules}
 use Rattle.std.specs.List.{range_with_len}
+use Rattle.std.proofs.lemmas.Iterator.Adapters.{option_map_id}
 use Rattle.std.proofs.lemmas.Iterator.Search.{find_from_yields_List}
 use Rattle.std.proofs.lemmas.Iterator.{YieldsList-from_range, YieldsList-from_map}
 use Rattle.cells.specs.Quotients.{zero_in}
@@ -15,14 +15,10 @@ as_meant : (m : Matrix) (side half : Side) (n : ℕ) → side ≡ half → n ≡
 unfolding rows_in_order
 as_meant m side half n e f = ap (λ (s : Side). first_zero m (rows_in_order s n)) e ∙ ap (λ (k : ℕ). first_zero m (rows_in_order half k)) f
 
-same_option : (o : Option ℕ) → o ≡ option_map (λ i. i) o
-same_option None = refl
-same_option (Some i) = refl
-
 pub returns : goal.returns
 returns g c =
     let m = g.T.Layout.meaning c.args.layout.now in let side = c.side-side.result in let n = c.rows-n.result in
     let found : c.find.result ≡ first_zero m (map (row_at side n) (range_with_len 0 n)) =
-    same_option _ ∙ find_from_yields_List (λ i. zero_in (m.entry i i)) _ _ c.find.result c.find.ensures.ran
+    sym (option_map_id _) ∙ find_from_yields_List (λ i. zero_in (m.entry i i)) _ _ c.find.result c.find.ensures.ran
     (YieldsList-from_map _ (row_at side n) (YieldsList-from_range 0 n n (search rules) (search rules)) refl (λ x r q k. search rules)) (λ x b q k. search (rules, tests)) in
     found ∙ as_meant m side _ n c.side-side.ensures.is c.rows-n.ensures

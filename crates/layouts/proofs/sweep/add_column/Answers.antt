@@ -1,4 +1,4 @@
-use Rattle.std.proofs.Common.{◌≡◌, ◌≢◌, ℕ, ◌+◌, ◌<◌, ◌≤◌, List, length, Some, None, get_or, set, sym, ap, ◌∙◌, subst, ⊎_elim, below_more, arith}
+use Rattle.std.proofs.Common.{◌≡◌, ◌≢◌, ℕ, ◌+◌, ◌<◌, ◌≤◌, List, length, Some, None, get_or, set, sym, refl, ap, ◌∙◌, subst, ⊎_elim, below_more, arith}
 use Rattle.std.proofs.lemmas.List.{get_or_read, get_or-set_same, get_or-set_other}
 use Rattle.std.proofs.lemmas.Bool.{cases_lt}
 use Rattle.arithmetic.specs.Values.{Value, plus, times, Small}
@@ -11,12 +11,13 @@ use Rattle.layouts.proofs.sweep.add_column.Goals as goal
 old : (sums was : List Total) (row : ℕ) (x : Total) → row < length sums → x ≡ get_or sums row x → ((k : ℕ) → row ≤ k → get_or sums k None ≡ get_or was k None) → x ≡ get_or was row None
 old sums was row x lt e same = get_or_read sums row x lt e None ∙ same row (omega arith)
 
-pub add_product-requires : goal.add_product-requires
-add_product-requires g c =
-    let l = c.loop-row in let was = c.args.sums.now in let x = c.index-sums-row.result in
-    let in-was : l.row < length was = omega (arith, c.loop-row-test.true, c.min-row-end.ensures) in
-    let P : Total → Type 0 = λ t. Small 17574738002943 (total_value t) in
-    subst P (sym (old l.sums was l.row x (omega (arith, l.auto.sums, in-was)) c.index-sums-row.is l.invariant.2)) (c.requires.small l.row in-was)
+pub loop-row-init : goal.loop-row-init
+loop-row-init g c =
+    let m = g.L.Layout.meaning c.args.layout.now in let was = c.args.sums.now in let j = c.args.column in (
+      λ k h. sym (still (total_value (get_or was k None)) (m.entry k j) (cell_value (Some c.in-Some.factor)) (c.down-places.ensures.before k h) refl),
+      λ k h n s. small_more n (n + 17179607041) (total_value (get_or was k None)) (omega arith) s,
+      λ k h. refl,
+    )
 
 pub loop-row-preserved : goal.loop-row-preserved
 loop-row-preserved g c =

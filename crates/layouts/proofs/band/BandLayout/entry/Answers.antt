@@ -1,24 +1,14 @@
-use Rattle.std.proofs.Common.{ℕ, ◌<◌, length, sym, ◌∙◌, subst, arith, rules}
+use Rattle.std.proofs.Common.{ℕ, ◌<◌, length, sym, ◌∙◌, subst}
 use Rattle.cells.specs.Cells.{cell_value}
 use Rattle.layouts.specs.Stored.{band_fit, band_place, band_entry}
-use Rattle.layouts.proofs.Places.{band_small, band_inside, stored_read, band_read, shaped_entry}
+use Rattle.layouts.proofs.Places.{band_inside, stored_read, band_read, shaped_entry}
 use Rattle.layouts.proofs.band.BandLayout.entry.Goals as goal
-
-pub place-requires : goal.place-requires
-place-requires c =
-    let d = c.args.self.now in let e = c.if-not-is_fit.ensures in
-    let f = band_small d.run.now d.rows d.columns d.below d.above d.stride e in
-    let p = band_inside d.run.now d.rows d.columns d.below d.above d.stride c.args.row c.args.column e c.if-column-self.true c.if-column-row.true c.if-row-column.true in
-    record { row = omega (arith, f.0, c.if-row-self.true); above = omega (arith, f.1); inside = search rules; here = c.if-column-row.true }
 
 inside : (c : goal.After-place) → c.place.result < length c.args.self.now.run.now
 inside c =
     let d = c.args.self.now in let P : ℕ → Type 0 = λ k. k < length d.run.now in
     subst P (sym c.place.ensures)
     (band_inside d.run.now d.rows d.columns d.below d.above d.stride c.args.row c.args.column c.if-not-is_fit.ensures c.if-column-self.true c.if-column-row.true c.if-row-column.true)
-
-pub offset_bounds-self-place : goal.offset_bounds-self-place
-offset_bounds-self-place c = let p = inside c in search rules
 
 pub bounds-self-place : goal.bounds-self-place
 bounds-self-place c = inside c

@@ -1,22 +1,14 @@
-use Rattle.std.proofs.Common.{ℕ, ◌<◌, length, sym, ◌∙◌, subst, rules}
+use Rattle.std.proofs.Common.{ℕ, ◌<◌, length, sym, ◌∙◌, subst}
 use Rattle.cells.specs.Cells.{cell_value, cell_at}
 use Rattle.layouts.specs.Stored.{dense_fit, dense_place}
 use Rattle.layouts.proofs.Places.{dense_inside, stored_read, shaped_entry}
 use Rattle.layouts.proofs.dense.DenseLayout.entry.Goals as goal
-
-pub place-requires : goal.place-requires
-place-requires c =
-    let d = c.args.self.now in
-    let p = dense_inside d.run.now d.rows d.columns d.stride c.args.row c.args.column c.if-not-is_fit.ensures c.if-row-self.true c.if-column-self.true in search rules
 
 inside : (c : goal.After-place) → c.place.result < length c.args.self.now.run.now
 inside c =
     let d = c.args.self.now in let P : ℕ → Type 0 = λ k. k < length d.run.now in
     subst P (sym c.place.ensures)
     (dense_inside d.run.now d.rows d.columns d.stride c.args.row c.args.column c.if-not-is_fit.ensures c.if-row-self.true c.if-column-self.true)
-
-pub offset_bounds-self-place : goal.offset_bounds-self-place
-offset_bounds-self-place c = let p = inside c in search rules
 
 pub bounds-self-place : goal.bounds-self-place
 bounds-self-place c = inside c
