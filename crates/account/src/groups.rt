@@ -7,7 +7,8 @@ use crate::outcome::{NoPair, Reason};
 use crate::standing::Standing;
 use std::fmt;
 
-// A tip is at fault where it has no pair, and that for no neighbour's sake.
+// A tip is at fault where it has no pair, and that for no neighbour's sake. An enum and no closures: a group is counted, listed
+// and put in a table of tasks, and one definition says what each is.
 #[derive(Clone, Copy)]
 pub enum Group {
     WorkedOut,

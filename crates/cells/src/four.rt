@@ -49,6 +49,7 @@ pub(crate) fn divide(direction: Direction, sums: Sums, by: Interval) -> [i64; 4]
     ]
 }
 
+// Least and greatest are two, as their definitions are: one function would take the comparison and be no plainer.
 pub(crate) fn least(four: [i64; 4]) -> i64
     ensures { result ≡ least four }
 {

@@ -5,7 +5,7 @@ use Rattle.arithmetic.specs.Values.{Value, zeros}
 use Rattle.cells.specs.declared.cell.Record.{Record}
 use Rattle.cells.specs.Cells.{IsCell, blank, cell_at}
 use Rattle.cells.specs.Reading.{read_cell}
-use Rattle.layouts.specs.Matrix.{Matrix, Sound, shaped, shaped_sound, nothing, nothing_sound}
+use Rattle.layouts.specs.Matrix.{Matrix, Sound, fitted, fitted_sound}
 use Rattle.layouts.specs.Stored.{zero_cell}
 
 abbrev pub diagonal_entry : List Record → (i j : ℕ) → Value
@@ -13,11 +13,9 @@ diagonal_entry run i j = cond (i == j) (cell_at run i) zeros
 
 -- the run is the diagonal, as long as there are at most 1,024 records
 abbrev pub diagonal : List Record → Matrix
-diagonal run = cond (nat_le (length run) 1024) (shaped (length run) (length run) (diagonal_entry run)) nothing
+diagonal run = fitted (nat_le (length run) 1024) (length run) (length run) (diagonal_entry run)
 
 pub diagonal_sound : (run : List Record) → Sound (diagonal run)
 diagonal_sound run =
-    cond_both (nat_le (length run) 1024) (shaped (length run) (length run) (diagonal_entry run)) nothing Sound
-    (λ e. shaped_sound (length run) (length run) (diagonal_entry run) (leb-true (length run) 1024 e) (leb-true (length run) 1024 e)
-    (λ i j. cond_both (i == j) (cell_at run i) zeros IsCell (λ t. read_cell (slice_index_or run i blank)) (λ t. zero_cell)))
-    (λ e. nothing_sound)
+    fitted_sound (nat_le (length run) 1024) (length run) (length run) (diagonal_entry run) (leb-true (length run) 1024) (leb-true (length run) 1024)
+    (λ e i j. cond_both (i == j) (cell_at run i) zeros IsCell (λ t. read_cell (slice_index_or run i blank)) (λ t. zero_cell))

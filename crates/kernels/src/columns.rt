@@ -1,11 +1,10 @@
 // What C calls, for square matrices, worked column by column: Σ L_ij·x_j for each row that `sums` has a place for. The answer, a
 // bool since a Result does not cross to C, is false where there are more than 1,024 sums, which are then left as they were.
 ghost use Rattle.std.specs.Prelude.{◌≡◌, true, false, map, length, nat_le};
-ghost use Rattle.std.specs.List.{range_with_len};
 ghost use Rattle.cells.specs.Cells.{cell_at};
 ghost use Rattle.layouts.specs.declared.side.Side.TheVariants.{Lower};
 ghost use Rattle.layouts.specs.Layers.{symmetric, transposed};
-ghost use Rattle.layouts.specs.Rows.{row_sum};
+ghost use Rattle.layouts.specs.Rows.{row_sums};
 ghost use Rattle.layouts.specs.Stored.{dense, band, packed};
 ghost use Rattle.kernels.specs.Sums.{sum_told};
 
@@ -22,7 +21,7 @@ pub extern "C" fn bepyndo_dense_by_columns(
     sums: &mut [SumRecord],
 ) -> bool
     ensures answer { result ≡ nat_le (length sums.old) 1024 }
-    ensures done { result ≡ true → map sum_told sums.new ≡ map (row_sum (dense run.now n n n) (cell_at xs.now)) (range_with_len 0 (length sums.old)) }
+    ensures done { result ≡ true → map sum_told sums.new ≡ row_sums (dense run.now n n n) (cell_at xs.now) (length sums.old) }
     ensures refused { result ≡ false → sums.new ≡ sums.old }
 {
     by_columns(&square::dense(run, n), xs, sums).is_ok()
@@ -38,7 +37,7 @@ pub extern "C" fn bepyndo_band_by_columns(
     sums: &mut [SumRecord],
 ) -> bool
     ensures answer { result ≡ nat_le (length sums.old) 1024 }
-    ensures done { result ≡ true → map sum_told sums.new ≡ map (row_sum (band run.now n n k k stride) (cell_at xs.now)) (range_with_len 0 (length sums.old)) }
+    ensures done { result ≡ true → map sum_told sums.new ≡ row_sums (band run.now n n k k stride) (cell_at xs.now) (length sums.old) }
     ensures refused { result ≡ false → sums.new ≡ sums.old }
 {
     by_columns(&square::band(run, n, k, k, stride), xs, sums).is_ok()
@@ -52,7 +51,7 @@ pub extern "C" fn bepyndo_packed_by_columns(
     sums: &mut [SumRecord],
 ) -> bool
     ensures answer { result ≡ nat_le (length sums.old) 1024 }
-    ensures done { result ≡ true → map sum_told sums.new ≡ map (row_sum (packed run.now Lower n) (cell_at xs.now)) (range_with_len 0 (length sums.old)) }
+    ensures done { result ≡ true → map sum_told sums.new ≡ row_sums (packed run.now Lower n) (cell_at xs.now) (length sums.old) }
     ensures refused { result ≡ false → sums.new ≡ sums.old }
 {
     by_columns(&square::packed(run, n), xs, sums).is_ok()
@@ -66,7 +65,7 @@ pub extern "C" fn bepyndo_symmetric_by_columns(
     sums: &mut [SumRecord],
 ) -> bool
     ensures answer { result ≡ nat_le (length sums.old) 1024 }
-    ensures done { result ≡ true → map sum_told sums.new ≡ map (row_sum (symmetric Lower (packed run.now Lower n)) (cell_at xs.now)) (range_with_len 0 (length sums.old)) }
+    ensures done { result ≡ true → map sum_told sums.new ≡ row_sums (symmetric Lower (packed run.now Lower n)) (cell_at xs.now) (length sums.old) }
     ensures refused { result ≡ false → sums.new ≡ sums.old }
 {
     by_columns(&square::symmetric(run, n), xs, sums).is_ok()
@@ -80,7 +79,7 @@ pub extern "C" fn bepyndo_transposed_by_columns(
     sums: &mut [SumRecord],
 ) -> bool
     ensures answer { result ≡ nat_le (length sums.old) 1024 }
-    ensures done { result ≡ true → map sum_told sums.new ≡ map (row_sum (transposed (dense run.now n n n)) (cell_at xs.now)) (range_with_len 0 (length sums.old)) }
+    ensures done { result ≡ true → map sum_told sums.new ≡ row_sums (transposed (dense run.now n n n)) (cell_at xs.now) (length sums.old) }
     ensures refused { result ≡ false → sums.new ≡ sums.old }
 {
     by_columns(&square::transposed(run, n), xs, sums).is_ok()

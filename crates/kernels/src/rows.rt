@@ -1,10 +1,9 @@
 // What C calls, for square matrices, worked row by row: Σ L_ij·x_j for each row that `sums` has a place for.
 ghost use Rattle.std.specs.Prelude.{◌≡◌, map, length};
-ghost use Rattle.std.specs.List.{range_with_len};
 ghost use Rattle.cells.specs.Cells.{cell_at};
 ghost use Rattle.layouts.specs.declared.side.Side.TheVariants.{Lower};
 ghost use Rattle.layouts.specs.Layers.{symmetric, transposed};
-ghost use Rattle.layouts.specs.Rows.{row_sum};
+ghost use Rattle.layouts.specs.Rows.{row_sums};
 ghost use Rattle.layouts.specs.Stored.{dense, band, packed};
 ghost use Rattle.kernels.specs.Sums.{sum_told};
 
@@ -20,7 +19,7 @@ pub extern "C" fn bepyndo_dense_by_rows(
     xs: &[Record],
     sums: &mut [SumRecord],
 )
-    ensures { map sum_told sums.new ≡ map (row_sum (dense run.now n n n) (cell_at xs.now)) (range_with_len 0 (length sums.old)) }
+    ensures { map sum_told sums.new ≡ row_sums (dense run.now n n n) (cell_at xs.now) (length sums.old) }
 {
     by_rows(&square::dense(run, n), xs, sums);
 }
@@ -34,7 +33,7 @@ pub extern "C" fn bepyndo_band_by_rows(
     xs: &[Record],
     sums: &mut [SumRecord],
 )
-    ensures { map sum_told sums.new ≡ map (row_sum (band run.now n n k k stride) (cell_at xs.now)) (range_with_len 0 (length sums.old)) }
+    ensures { map sum_told sums.new ≡ row_sums (band run.now n n k k stride) (cell_at xs.now) (length sums.old) }
 {
     by_rows(&square::band(run, n, k, k, stride), xs, sums);
 }
@@ -46,7 +45,7 @@ pub extern "C" fn bepyndo_packed_by_rows(
     xs: &[Record],
     sums: &mut [SumRecord],
 )
-    ensures { map sum_told sums.new ≡ map (row_sum (packed run.now Lower n) (cell_at xs.now)) (range_with_len 0 (length sums.old)) }
+    ensures { map sum_told sums.new ≡ row_sums (packed run.now Lower n) (cell_at xs.now) (length sums.old) }
 {
     by_rows(&square::packed(run, n), xs, sums);
 }
@@ -58,7 +57,7 @@ pub extern "C" fn bepyndo_symmetric_by_rows(
     xs: &[Record],
     sums: &mut [SumRecord],
 )
-    ensures { map sum_told sums.new ≡ map (row_sum (symmetric Lower (packed run.now Lower n)) (cell_at xs.now)) (range_with_len 0 (length sums.old)) }
+    ensures { map sum_told sums.new ≡ row_sums (symmetric Lower (packed run.now Lower n)) (cell_at xs.now) (length sums.old) }
 {
     by_rows(&square::symmetric(run, n), xs, sums);
 }
@@ -70,7 +69,7 @@ pub extern "C" fn bepyndo_transposed_by_rows(
     xs: &[Record],
     sums: &mut [SumRecord],
 )
-    ensures { map sum_told sums.new ≡ map (row_sum (transposed (dense run.now n n n)) (cell_at xs.now)) (range_with_len 0 (length sums.old)) }
+    ensures { map sum_told sums.new ≡ row_sums (transposed (dense run.now n n n)) (cell_at xs.now) (length sums.old) }
 {
     by_rows(&square::transposed(run, n), xs, sums);
 }

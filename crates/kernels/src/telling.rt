@@ -1,8 +1,7 @@
 // Sums worked out over any layout, and told in the form that C reads.
 ghost use Rattle.std.specs.Prelude.{◌≡◌, ◌≤◌, map, length, nat_le, is_ok, OnOk, OnErr};
-ghost use Rattle.std.specs.List.{range_with_len};
 ghost use Rattle.cells.specs.Cells.{total_value, cell_at};
-ghost use Rattle.layouts.specs.Rows.{row_sum};
+ghost use Rattle.layouts.specs.Rows.{row_sums};
 ghost use Rattle.kernels.specs.Sums.{sum_told};
 
 use crate::sum::SumRecord;
@@ -31,7 +30,7 @@ fn tell_all(totals: &[Total], sums: &mut [SumRecord])
 fn swept<const N: usize, L: Layout>(layout: &L, xs: &[Record], sums: &mut [SumRecord])
     requires room { length sums.old ≤ N }
     requires few { N ≤ 1024 }
-    ensures { map sum_told sums.new ≡ map (row_sum (L.Layout.meaning layout.now) (cell_at xs.now)) (range_with_len 0 (length sums.old)) }
+    ensures { map sum_told sums.new ≡ row_sums (L.Layout.meaning layout.now) (cell_at xs.now) (length sums.old) }
 {
     let mut places = [None; N];
     let totals = &mut places[..sums.len()];
@@ -46,7 +45,7 @@ pub(crate) fn by_columns<L: Layout>(
     sums: &mut [SumRecord],
 ) -> Result<(), TooManySums>
     ensures answer { is_ok result ≡ nat_le (length sums.old) 1024 }
-    ensures done { OnOk result (map sum_told sums.new ≡ map (row_sum (L.Layout.meaning layout.now) (cell_at xs.now)) (range_with_len 0 (length sums.old))) }
+    ensures done { OnOk result (map sum_told sums.new ≡ row_sums (L.Layout.meaning layout.now) (cell_at xs.now) (length sums.old)) }
     ensures refused { OnErr result (sums.new ≡ sums.old) }
 {
     // a small product has a small array to set up
@@ -61,7 +60,7 @@ pub(crate) fn by_columns<L: Layout>(
 
 // The sums of all rows, worked row by row.
 pub(crate) fn by_rows<L: Layout>(layout: &L, xs: &[Record], sums: &mut [SumRecord])
-    ensures { map sum_told sums.new ≡ map (row_sum (L.Layout.meaning layout.now) (cell_at xs.now)) (range_with_len 0 (length sums.old)) }
+    ensures { map sum_told sums.new ≡ row_sums (L.Layout.meaning layout.now) (cell_at xs.now) (length sums.old) }
 {
     let vector = Vector::of(xs);
     for (row, sum) in sums.iter_mut().enumerate() {

@@ -1,6 +1,7 @@
 -- The row formulas of a product and of a solve over a matrix: the cell that each works out, rounded out once, and the set of
 -- fractions that its operands reach.
-use Rattle.std.specs.Prelude.{ℕ, ◌+◌, ◌-◌, List, ℤ, Result}
+use Rattle.std.specs.Prelude.{ℕ, ◌+◌, ◌-◌, List, map, ℤ, Result}
+use Rattle.std.specs.List.{range_with_len}
 use Rattle.arithmetic.specs.Sets.{Set, ProductSet, SumSet, NegativeSet, QuotientSet, TotalSet}
 use Rattle.arithmetic.specs.Values.{Value}
 use Rattle.cells.specs.declared.cell.Record.{Record}
@@ -18,6 +19,10 @@ use Rattle.layouts.specs.Matrix.{Matrix}
 -- Σ m_ij·x_j, unrounded
 abbrev pub row_sum : Matrix → (x : ℕ → Value) (i : ℕ) → Value
 row_sum m x i = sum_of_products (m.entry i) x 0 m.columns
+
+-- those of the first n rows
+abbrev pub row_sums : Matrix → (x : ℕ → Value) (n : ℕ) → List Value
+row_sums m x n = map (row_sum m x) (range_with_len 0 n)
 
 -- a dot of row i with x
 abbrev pub product_cell : (u : ℤ) → Matrix → (alpha beta r : Value) (x : ℕ → Value) (i : ℕ) → Value

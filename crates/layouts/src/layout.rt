@@ -9,7 +9,8 @@ ghost use Rattle.layouts.specs.Spans.{ZeroAcross, ZeroDown};
 use crate::side::Side;
 use cells::cell::{Cell, Places};
 
-// A matrix of cells, however it is stored.
+// A matrix of cells, however it is stored. Rows and columns are asked apart, since it need not be square; what storages and layers
+// answer to both is made in `lines`.
 pub trait Layout {
     // the matrix that the layout means
     ghost meaning: { Self → Matrix };

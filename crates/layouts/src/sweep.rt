@@ -1,11 +1,10 @@
 // The sums of all rows of a product at once, column by column: storage stands column by column too, so memory is read in
 // order, and each x_j is read once.
 ghost use Rattle.std.specs.Prelude.{◌≡◌, ℕ, ◌+◌, ◌<◌, ◌≤◌, true, map, length, None, slice_index_or};
-ghost use Rattle.std.specs.List.{range_with_len};
 ghost use Rattle.arithmetic.specs.Values.{times, plus, Small};
 ghost use Rattle.cells.specs.Cells.{cell_value, total_value, cell_at};
 ghost use Rattle.layouts.specs.Filled.{is_filled};
-ghost use Rattle.layouts.specs.Rows.{row_sum};
+ghost use Rattle.layouts.specs.Rows.{row_sums};
 
 use crate::layout::Layout;
 use crate::vector::Vector;
@@ -34,7 +33,7 @@ fn add_column<L: Layout>(layout: &L, column: usize, x: Cell, sums: &mut [Total])
 
 // Σ L_ij·x_j over all columns of the layout, unrounded, for each row that `sums` has a place for.
 pub fn product_sums<L: Layout>(layout: &L, xs: Vector<'_>, sums: &mut [Total])
-    ensures { map total_value sums.new ≡ map (row_sum (L.Layout.meaning layout.now) (cell_at xs.entry.run.now)) (range_with_len 0 (length sums.old)) }
+    ensures { map total_value sums.new ≡ row_sums (L.Layout.meaning layout.now) (cell_at xs.entry.run.now) (length sums.old) }
 {
     let columns = layout.columns();
     if xs.filled < columns {

@@ -23,6 +23,8 @@ pub struct Sums {
     pub greatest: Unrounded,
 }
 
+// A maker for each range, here and in `cells`: one is up to a power of two, one without 0, one from 1 on, one of places.
+
 impl Unrounded {
     // None for a number of 2^62 or more in size.
     pub fn new(value: i64) -> Option<Unrounded>

@@ -36,7 +36,7 @@ fn ceiling_of(value: Unrounded, by: Divisor) -> i64
 }
 
 impl Direction {
-    // The quotient, rounded down or up.
+    // The quotient, rounded down or up. A switch and no closure: the direction is a state, which the guard turns and puts back.
     pub fn quotient(self, value: Unrounded, by: Divisor) -> i64
         ensures { result ≡ rounded_in self value.value by.value }
     {
