@@ -8,7 +8,7 @@ ghost use Rattle.cells.specs.Worked.{dot_at, sum_at, blend_at};
 
 use crate::cell::{Cell, Extremes, Factors, Places, Record, Sum, Target, Terms, Total, Totals};
 use crate::fault::CellFault;
-use crate::reading::cell_at;
+use crate::reading::{cell_at, read};
 use crate::rounding_out::{keep, round_out};
 use crate::totals::{Operands, blended, sum_of_products, weighted};
 use rounding::rest::Rounding;
@@ -39,8 +39,9 @@ fn sum_of_cells(xs: &[Record], terms: Terms) -> Total
     ensures { total_value result ≡ total (cell_at xs.now) 0 terms.count }
 {
     let mut sofar = Totals::ZERO;
-    for j in 0..terms.count {
-        sofar = sofar.with(Extremes::from(cell_at(xs, j)?));
+    // a run that is too short has an empty place
+    for record in xs.get(..terms.count)? {
+        sofar = sofar.with(Extremes::from(read(*record)?));
     }
     Some(sofar)
 }

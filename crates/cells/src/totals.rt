@@ -25,6 +25,7 @@ pub fn sum_of_products<O: Operands>(operands: &O, places: Places) -> Total
     ensures { total_value result ≡ sum_of_products (O.Operands.lefts operands.now) (O.Operands.rights operands.now) places.from (places.to - places.from) }
 {
     let mut sofar = Totals::ZERO;
+    // a `for` and no `try_fold`: why no word overflows is an invariant of the loop, and a closure has none
     for j in places.from..places.to {
         let term = Product::of(operands.left(j)?, operands.right(j)?);
         sofar = sofar.with(term);

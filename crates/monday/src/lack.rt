@@ -8,6 +8,7 @@ use cells::cell::Record;
 use cells::reading::read;
 use std::fmt;
 
+// An enum of its own beside that of a line of boxes: a tip that is read alone can lack no neighbour.
 #[derive(Clone, Copy)]
 pub enum Lack {
     NothingGiven,

@@ -1,4 +1,5 @@
-// Whole numbers that carry their ranges: what is divided, and by what.
+// Whole numbers that carry their ranges: what is divided, and by what. Each has a maker of its own, as have those of `cells`: no
+// two ranges have the same shape, and one maker for all would take the test from its caller.
 ghost use Rattle.std.specs.Prelude.{◌≡◌, ◌^◌, ◌<◌, ◌≤◌, pos, MatchOption, ◌≢◌, unsigned_abs};
 
 // An unrounded sum: one signed 64-bit number below 2^62 in size.
@@ -22,8 +23,6 @@ pub struct Sums {
     pub least: Unrounded,
     pub greatest: Unrounded,
 }
-
-// A maker for each range, here and in `cells`: one is up to a power of two, one without 0, one from 1 on, one of places.
 
 impl Unrounded {
     // None for a number of 2^62 or more in size.

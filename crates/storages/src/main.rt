@@ -103,6 +103,7 @@ impl fmt::Display for Heading<'_> {
 }
 
 fn print_row<L: Layout>(rt: &HostRuntime, matrix: &L, row: usize) -> io::Result<()> {
+    // a layout is asked by row and column, and is no slice
     for column in 0..matrix.columns() {
         if column > 0 {
             print!(rt; " ")?;
@@ -138,18 +139,25 @@ fn print_general<L: Layout>(rt: &HostRuntime, heading: &str, matrix: &L) -> io::
     print_transposed(rt, heading, matrix)
 }
 
-fn print_symmetric<L: Layout>(
+// Each side of a storage, as a symmetric matrix.
+fn print_symmetric<L: Layout + Drop, F: Fn(Side) -> L>(
     rt: &HostRuntime,
     scheme: &str,
     size: &str,
-    matrix: &Symmetric<L>,
-) -> io::Result<()> {
-    let side = matrix.side;
-    print_matrix(rt, Heading { scheme, side, size }, matrix)
+    stored: F,
+) -> io::Result<()>
+    requires { F.IsAlwaysCallable stored }
+{
+    for side in SIDES {
+        let below = stored(side);
+        let heading = Heading { scheme, side, size };
+        print_matrix(rt, heading, &Symmetric { below, side })?;
+    }
+    Ok(())
 }
 
 // With the diagonal that is stored and with ones on it, then both transposed.
-fn print_triangular<T: Triangular>(
+fn print_triangle<T: Triangular>(
     rt: &HostRuntime,
     scheme: &str,
     size: &str,
@@ -166,6 +174,21 @@ fn print_triangular<T: Triangular>(
     print_matrix(rt, &with_ones_heading, &with_ones)?;
     print_transposed(rt, heading, matrix)?;
     print_transposed(rt, &with_ones_heading, &with_ones)
+}
+
+// Each side of a storage, as a triangle.
+fn print_triangular<T: Triangular + Drop, F: Fn(Side) -> T>(
+    rt: &HostRuntime,
+    scheme: &str,
+    size: &str,
+    stored: F,
+) -> io::Result<()>
+    requires { F.IsAlwaysCallable stored }
+{
+    for side in SIDES {
+        print_triangle(rt, scheme, size, &stored(side))?;
+    }
+    Ok(())
 }
 
 fn print_generals(rt: &HostRuntime, run: &[Record; PLACES]) -> io::Result<()> {
@@ -188,34 +211,31 @@ fn print_generals(rt: &HostRuntime, run: &[Record; PLACES]) -> io::Result<()> {
 }
 
 fn print_symmetrics(rt: &HostRuntime, run: &[Record; PLACES]) -> io::Result<()> {
-    for side in SIDES {
-        let below = dense(run);
-        print_symmetric(rt, "SY", DENSE, &Symmetric { below, side })?;
-    }
-    for side in SIDES {
-        let below = band(run, side);
-        print_symmetric(rt, "SB", BAND, &Symmetric { below, side })?;
-    }
-    for side in SIDES {
-        let below = packed(run, side);
-        print_symmetric(rt, "SP", PACKED, &Symmetric { below, side })?;
-    }
-    Ok(())
+    print_symmetric(rt, "SY", DENSE, |_| dense(run))?;
+    print_symmetric(rt, "SB", BAND, |side| band(run, side))?;
+    print_symmetric(rt, "SP", PACKED, |side| packed(run, side))
 }
 
 fn print_triangulars(rt: &HostRuntime, run: &[Record; PLACES]) -> io::Result<()> {
-    for side in SIDES {
-        let below = dense(run);
-        print_triangular(rt, "TR", DENSE, &Triangle { below, side })?;
-    }
-    for side in SIDES {
-        let below = band(run, side);
-        print_triangular(rt, "TB", BAND, &Triangle { below, side })?;
-    }
-    for side in SIDES {
-        print_triangular(rt, "TP", PACKED, &packed(run, side))?;
-    }
-    Ok(())
+    print_triangular(
+        rt,
+        "TR",
+        DENSE,
+        |side| Triangle {
+            below: dense(run),
+            side,
+        },
+    )?;
+    print_triangular(
+        rt,
+        "TB",
+        BAND,
+        |side| Triangle {
+            below: band(run, side),
+            side,
+        },
+    )?;
+    print_triangular(rt, "TP", PACKED, |side| packed(run, side))
 }
 
 fn main(rt: HostRuntime) -> io::Result<()> {
