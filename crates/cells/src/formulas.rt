@@ -1,5 +1,6 @@
 // The cell formulas of dot, sum and blend over runs of records: what the cell at a row of a column becomes.
-// Every operand counts: an empty one empties the cell, even under a factor of zero. A place past a run's end is empty.
+// Every operand counts: an empty one empties the cell, even under a factor of zero. How many terms there are is told beside the
+// runs, since runs may be longer; a place past a run's end is empty.
 ghost use Rattle.std.specs.Prelude.{◌≡◌};
 ghost use Rattle.arithmetic.specs.Values.{total};
 ghost use Rattle.cells.specs.Cells.{cell_value, total_value, sum_value, cell_at};
@@ -50,11 +51,8 @@ fn sum_of_cells(xs: &[Record], terms: Terms) -> Total
 fn dot_sum(factors: Factors, old: Cell, xs: &[Record], ys: &[Record], terms: Terms) -> Sum
     ensures { sum_value result ≡ weighted_sum factors.scale.steps (cell_value factors.alpha) (cell_value factors.beta) (cell_value old) (sum_of_products (cell_at xs.now) (cell_at ys.now) 0 terms.count) }
 {
-    let places = Places {
-        from: 0,
-        to: terms.count,
-    };
-    weighted(factors, old, sum_of_products(&Runs { xs, ys }, places))
+    let products = sum_of_products(&Runs { xs, ys }, Places::from(terms));
+    weighted(factors, old, products)
 }
 
 // beta·r + alpha·Σ x_j·y_j over the first places of two runs, r being the cell at the row.

@@ -9,6 +9,7 @@ use crate::cell::{Extremes, Interval};
 use rounding::direction::Direction;
 use rounding::numbers::{Divisor, Sums};
 
+// 2^44 stands in the contract of each step down to here: a const parameter has no bound of its own.
 fn times(x: i32, y: i64) -> i64
     requires bound { unsigned_abs x ≤ 131071 }
     requires value { unsigned_abs y ≤ 2 ^ 44 }

@@ -1,9 +1,10 @@
 // Records read as cells, cells written as records, and the checked makers of the numbers with ranges.
 ghost use Rattle.std.specs.Prelude.{◌≡◌, ◌<◌, ◌≤◌, MatchOption};
+ghost use Rattle.arithmetic.specs.Values.{bounds};
 ghost use Rattle.cells.specs.Cells.{cell_value, read_as, written, cell_at};
 ghost use Rattle.cells.specs.Scales.{IsScale};
 
-use crate::cell::{Cell, EMPTY, Interval, Record, Scale, Target, Terms};
+use crate::cell::{Cell, EMPTY, Interval, Places, Record, Scale, Target, Terms};
 use rounding::rest::dividing::LIMIT;
 
 // What a record reads as: a record that breaks the rule of a cell reads as the empty one.
@@ -69,6 +70,17 @@ impl Scale {
         }
         Some(Scale { steps })
     }
+
+    // The cell of exactly one unit.
+    pub fn one(self) -> Cell
+        ensures { cell_value result ≡ bounds self.steps self.steps }
+    {
+        let steps = self.steps as i32;
+        Some(Interval {
+            lower: steps,
+            upper: steps,
+        })
+    }
 }
 
 impl Terms {
@@ -80,5 +92,17 @@ impl Terms {
             return None;
         }
         Some(Terms { count })
+    }
+}
+
+// The first places, as many as a sum has terms.
+impl From<Terms> for Places {
+    ghost from_gives = { λ t r. (r.from ≡ 0) × (r.to ≡ t.count) };
+
+    fn from(terms: Terms) -> Places {
+        Places {
+            from: 0,
+            to: terms.count,
+        }
     }
 }

@@ -17,8 +17,7 @@ pub fn round_out(rounding: &mut Rounding, sum: Sum, by: Divisor) -> Result<Recor
     let Some(sums) = sum else {
         return Ok(EMPTY);
     };
-    let (lower, upper) = rounding.outward(sums, by)?;
-    Ok(Record { lower, upper })
+    Ok(Record::from(rounding.outward(sums, by)?))
 }
 
 // A total that is in steps already.

@@ -9,6 +9,9 @@ use crate::cell::{Extremes, Interval, Product, Scale, Totals};
 use crate::four::{greatest, least, multiply};
 use rounding::numbers::{Divisor, Sums, Unrounded};
 
+// Of a product at a scale that is finer by the number of steps: at most 2^51.
+pub(crate) type Finer = Extremes<2_251_799_813_685_248>;
+
 // Of a cell times a sum of products: below 2^61.
 pub(crate) type Weighted = Extremes<2_305_790_233_058_212_864>;
 
@@ -82,7 +85,7 @@ impl Product {
     }
 
     // The same at a scale that is finer by the number of steps.
-    pub(crate) fn scaled(self, scale: Scale) -> Extremes<2_251_799_813_685_248>
+    pub(crate) fn scaled(self, scale: Scale) -> Finer
         ensures { extremes result ≡ rescaled scale.steps (extremes self) }
     {
         Extremes {

@@ -4,7 +4,7 @@ use Rattle.std.proofs.lemmas.Bool.{cases_lt, false≢true}
 use Rattle.std.specs.List.{range_with_len}
 use Rattle.std.proofs.lemmas.List.FromFn.{fill_by_all}
 use Rattle.std.proofs.Math.ListN.{get_or-append}
-use Rattle.std.proofs.lemmas.List.{get_or-map, length-map, get_or-take, get_or-replicate, get_or-append_right, get_or_default, get_or_past, length-take, length-take-le, length-replicate}
+use Rattle.std.proofs.lemmas.List.{get_or-map, length-map, get_or-take, get_or-replicate, get_or-append_right, get_or_past, length-take-le, length-replicate}
 use Rattle.arithmetic.specs.Values.{Value, empty, plus, times, total}
 use Rattle.arithmetic.proofs.Totals.{total_empty}
 use Rattle.cells.specs.declared.cell.Record.{Record}
@@ -24,10 +24,6 @@ pub filled_inside : (run : List Record) (n : ℕ) → Filled run 0 n → n ≤ l
 filled_inside run n f =
     let past : is_filled (cell_at run (length run)) ≡ false = ap (λ (r : Record). is_filled (read_as r)) (get_or_past run (length run) blank (omega arith)) in
     ⊎_elim (λ (b : length run < n). absurd (false≢true (sym past ∙ f (length run) (omega arith) b))) (λ (b : n ≤ length run). b) (cases_lt (length run) n)
-
--- what is read of the first n cells of a run
-pub read_first : (run : List Record) (n j : ℕ) (d : Record) (v : Value) → j < length (take n run) → v ≡ read_as (get_or (take n run) j d) → v ≡ cell_at run j
-read_first run n j d v h e = e ∙ ap read_as (get_or-take n run j d (omega (arith, h, length-take n run)) ∙ get_or_default run j d blank (omega (arith, h, length-take n run)))
 
 -- what a list keeps whose end is written anew from r on, and what stands in that end once it is filled
 pub end_kept : (s end : List Total) (r k : ℕ) → r ≤ length s → k < r → get_or (take r s ++ end) k None ≡ get_or s k None

@@ -5,7 +5,7 @@ ghost use Rattle.layouts.specs.Stored.{band as stored, band_place, band_fit, ban
 use crate::entries::zero;
 use crate::figures::{Figures, has_room};
 use crate::layout::Layout;
-use crate::lines::{all, near};
+use crate::lines::{near, whole};
 use cells::cell::{Cell, Places, Record};
 use cells::reading::read;
 
@@ -74,7 +74,7 @@ impl Layout for Band<'_> {
     }
 
     fn across(&self, row: usize) -> Places {
-        let columns = all(self.columns());
+        let columns = whole(self.columns());
         if row < self.rows() {
             near(row, self.below, self.above, columns)
         } else {
@@ -83,7 +83,7 @@ impl Layout for Band<'_> {
     }
 
     fn down(&self, column: usize) -> Places {
-        let rows = all(self.rows());
+        let rows = whole(self.rows());
         if column < self.columns() {
             near(column, self.above, self.below, rows)
         } else {

@@ -4,7 +4,8 @@ ghost use Rattle.layouts.specs.Refusals.{Checked};
 
 use crate::refusal::LayoutRefusal;
 
-// A storage with figures. Unfit ones mean the 0 by 0 matrix.
+// A storage with figures. Unfit ones mean the 0 by 0 matrix, so every answer of a storage asks `is_fit` first; that stands in each answer, since
+// a helper would be no shorter than the question.
 pub trait Figures {
     ghost fit: { Self → Bool };
 

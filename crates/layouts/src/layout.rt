@@ -6,11 +6,11 @@ ghost use Rattle.layouts.specs.Matrix.{Matrix, Sound};
 ghost use Rattle.layouts.specs.Sides.{IsTriangle};
 ghost use Rattle.layouts.specs.Spans.{ZeroAcross, ZeroDown};
 
+use crate::lines::whole;
 use crate::side::Side;
 use cells::cell::{Cell, Places};
 
-// A matrix of cells, however it is stored. Rows and columns are asked apart, since it need not be square; what storages and layers
-// answer to both is made in `lines`.
+// A matrix of cells, however it is stored. Rows and columns are asked apart, by two questions each, since a matrix need not be square.
 pub trait Layout {
     // the matrix that the layout means
     ghost meaning: { Self → Matrix };
@@ -30,10 +30,7 @@ pub trait Layout {
         ensures { ZeroAcross (meaning self.now) row result }
     {
         let _ = row;
-        Places {
-            from: 0,
-            to: self.columns(),
-        }
+        whole(self.columns())
     }
 
     // Rows of a column outside which the column is [0, 0]. Which of them is answered is free; the narrower, the faster.
@@ -41,10 +38,7 @@ pub trait Layout {
         ensures { ZeroDown (meaning self.now) column result }
     {
         let _ = column;
-        Places {
-            from: 0,
-            to: self.rows(),
-        }
+        whole(self.rows())
     }
 
     // a law: at most 1,024 rows and columns, cells as entries, empty outside

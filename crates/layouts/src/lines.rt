@@ -1,4 +1,4 @@
-// A line is a row or a column. Which of its places a layout names as those outside which the line is [0, 0].
+// A line is a row or a column. These are the places of a line that a layout can answer to `across` and `down`.
 ghost use Rattle.std.specs.Prelude.{◌≡◌, ◌+◌, ◌-◌, ◌<◌, ◌≤◌, min, max};
 ghost use Rattle.layouts.specs.Layers.{smaller as smaller-of};
 ghost use Rattle.layouts.specs.Spans.{half_from, half_to};
@@ -7,7 +7,7 @@ use crate::layout::Layout;
 use crate::side::Side;
 use cells::cell::Places;
 
-// The side of the largest square at a layout's corner (0, 0).
+// How many rows and columns the largest square at a layout's corner (0, 0) has.
 pub(crate) fn smaller<L: Layout>(layout: &L) -> usize
     ensures { result ≡ smaller-of (L.Layout.meaning layout.now) }
 {
@@ -15,31 +15,32 @@ pub(crate) fn smaller<L: Layout>(layout: &L) -> usize
 }
 
 // All places of a line of n.
-pub(crate) fn all(n: usize) -> Places
+pub(crate) fn whole(n: usize) -> Places
     requires { n ≤ 1024 }
     ensures { (result.from ≡ 0) × (result.to ≡ n) }
 {
     Places { from: 0, to: n }
 }
 
-// Of all places of a line, those from `before` places before one to `after` places after it.
-pub(crate) fn near(place: usize, before: usize, after: usize, all: Places) -> Places
-    ensures { (result.to ≡ min all.to (place + after + 1)) × (result.from ≡ min result.to (place - before)) }
+// Of the places of a line, those from `before` places before one to `after` places after it.
+pub(crate) fn near(place: usize, before: usize, after: usize, line: Places) -> Places
+    ensures { (result.to ≡ min line.to (place + after + 1)) × (result.from ≡ min result.to (place - before)) }
 {
-    let to = all.to.min(place.saturating_add(after).saturating_add(1));
+    let to = line.to.min(place.saturating_add(after).saturating_add(1));
     Places {
         from: to.min(place.saturating_sub(before)),
         to,
     }
 }
 
-// Of all places of a line, those that are on a side, its place on the diagonal among them; all where it has none there.
-pub(crate) fn half(side: Side, diagonal: usize, all: Places) -> Places
-    ensures all { all.to ≤ diagonal → (result.from ≡ all.from) × (result.to ≡ all.to) }
-    ensures half { diagonal < all.to → (result.from ≡ half_from side diagonal) × (result.to ≡ half_to side diagonal all.to) }
+// Of the places of a line, those that are on a side, the one on the diagonal among them; all where the line has none there. The side is
+// the matrix's for a row, and the opposite one for a column.
+pub(crate) fn half(side: Side, diagonal: usize, line: Places) -> Places
+    ensures none { line.to ≤ diagonal → (result.from ≡ line.from) × (result.to ≡ line.to) }
+    ensures half { diagonal < line.to → (result.from ≡ half_from side diagonal) × (result.to ≡ half_to side diagonal line.to) }
 {
-    if diagonal >= all.to {
-        return all;
+    if diagonal >= line.to {
+        return line;
     }
     match side {
         Side::Lower => Places {
@@ -48,7 +49,7 @@ pub(crate) fn half(side: Side, diagonal: usize, all: Places) -> Places
         },
         Side::Upper => Places {
             from: diagonal,
-            to: all.to,
+            to: line.to,
         },
     }
 }

@@ -5,7 +5,7 @@ ghost use Rattle.layouts.specs.Stored.{packed as stored, packed_fit, packed_plac
 use crate::entries::{is_on, zero};
 use crate::figures::Figures;
 use crate::layout::{Layout, Triangular};
-use crate::lines::{all, half};
+use crate::lines::{half, whole};
 use crate::side::Side;
 use cells::cell::{Cell, Places, Record};
 use cells::reading::read;
@@ -68,11 +68,11 @@ impl Layout for Packed<'_> {
     }
 
     fn across(&self, row: usize) -> Places {
-        half(self.side, row, all(self.columns()))
+        half(self.side, row, whole(self.columns()))
     }
 
     fn down(&self, column: usize) -> Places {
-        half(self.side.opposite(), column, all(self.rows()))
+        half(self.side.opposite(), column, whole(self.rows()))
     }
 }
 

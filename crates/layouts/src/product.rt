@@ -4,9 +4,10 @@ ghost use Rattle.cells.specs.Cells.{cell_value, total_value, cell_at};
 ghost use Rattle.layouts.specs.Rows.{row_sum, product_at};
 
 use crate::layout::Layout;
+use crate::lines::whole;
 use crate::operands::RowTimes;
 use crate::vector::Vector;
-use cells::cell::{Factors, Places, Record, Target, Total};
+use cells::cell::{Factors, Record, Target, Total};
 use cells::fault::CellFault;
 use cells::rounding_out::round_out;
 use cells::totals::weighted;
@@ -20,12 +21,12 @@ pub fn row_sum<L: Layout>(layout: &L, row: usize, xs: Vector<'_>) -> Total
     if xs.filled < columns {
         return None;
     }
-    let run = xs.run;
-    let all = Places {
-        from: 0,
-        to: columns,
+    let times = RowTimes {
+        layout,
+        row,
+        run: xs.run,
     };
-    RowTimes { layout, row, run }.filled_sum(all)
+    times.filled_sum(whole(columns))
 }
 
 // beta·r + alpha·Σ L_ij·x_j over all columns of the layout, r being the cell at the row of a column.

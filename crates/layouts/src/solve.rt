@@ -46,8 +46,12 @@ fn solved_sum<T: Triangular>(layout: &T, row: usize, column: &[Record]) -> Total
             to: layout.rows(),
         },
     };
-    let run = column;
-    RowTimes { layout, row, run }.sum(solved)
+    let times = RowTimes {
+        layout,
+        row,
+        run: column,
+    };
+    times.sum(solved)
 }
 
 // (alpha·x_i − Σ T_ij·z_j)/T_ii at a row of a column that holds z_j at the rows solved before, and x elsewhere. The cell is

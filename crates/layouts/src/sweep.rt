@@ -1,31 +1,25 @@
 // The sums of all rows of a product at once, column by column: storage stands column by column too, so memory is read in
 // order, and each x_j is read once.
-ghost use Rattle.std.specs.Prelude.{◌≡◌, ℕ, ◌+◌, ◌<◌, ◌≤◌, true, map, length, None, slice_index_or};
-ghost use Rattle.arithmetic.specs.Values.{times, plus, Small};
-ghost use Rattle.cells.specs.Cells.{cell_value, total_value, cell_at};
-ghost use Rattle.layouts.specs.Filled.{is_filled};
+ghost use Rattle.std.specs.Prelude.{◌≡◌, ℕ, ◌+◌, ◌<◌, ◌≤◌, map, length, None, slice_index_or};
+ghost use Rattle.arithmetic.specs.Values.{bounds, times, plus, Small};
+ghost use Rattle.cells.specs.Cells.{total_value, cell_at};
 ghost use Rattle.layouts.specs.Rows.{row_sums};
 
 use crate::layout::Layout;
 use crate::vector::Vector;
-use cells::cell::{Cell, Total, Totals};
+use cells::cell::{Interval, Total, Totals};
 use cells::reading::read;
 use cells::totals::add_product;
 
-// Adds a column of the layout times a filled cell x, reading only the places outside which the column is [0, 0].
-fn add_column<L: Layout>(layout: &L, column: usize, x: Cell, sums: &mut [Total])
-    requires filled { is_filled (cell_value x) ≡ true }
-    requires small { (k : ℕ) → k < length sums.old → Small 17574738002943 (total_value (slice_index_or sums.old k None)) }
-    ensures is { (k : ℕ) → k < length sums.old → k < (L.Layout.meaning layout.now).rows → total_value (slice_index_or sums.new k None) ≡ plus (total_value (slice_index_or sums.old k None)) (times ((L.Layout.meaning layout.now).entry k column) (cell_value x)) }
+// Adds a column of the layout times the bounds of a filled cell, reading only the places outside which the column is [0, 0].
+fn add_column<L: Layout>(layout: &L, column: usize, factor: Interval, sums: &mut [Total])
+    requires { (k : ℕ) → k < length sums.old → Small 17574738002943 (total_value (slice_index_or sums.old k None)) }
+    ensures is { (k : ℕ) → k < length sums.old → k < (L.Layout.meaning layout.now).rows → total_value (slice_index_or sums.new k None) ≡ plus (total_value (slice_index_or sums.old k None)) (times ((L.Layout.meaning layout.now).entry k column) (bounds factor.lower factor.upper)) }
     ensures size { (k : ℕ) → k < length sums.old → (n : ℕ) → Small n (total_value (slice_index_or sums.old k None)) → Small (n + 17179607041) (total_value (slice_index_or sums.new k None)) }
 {
-    // x is taken apart before the loop, so that no turn asks whether it is filled
-    let Some(factor) = x else {
-        return;
-    };
     let places = layout.down(column);
-    // the rows are counted: a chain over `iter_mut` with `take` and `skip` tells nothing of the sums that it leaves, and a part
-    // of the sums has its own count, from 0 on
+    // the rows are counted: a chain over `iter_mut` with `take` and `skip` was tried, and a proof knows nothing of the sums that it
+    // leaves; a loop over a part of the sums would count from 0 and be no plainer
     for row in places.from..places.to.min(sums.len()) {
         sums[row] = add_product(sums[row], layout.entry(row, column), Some(factor));
     }
@@ -42,7 +36,10 @@ pub fn product_sums<L: Layout>(layout: &L, xs: Vector<'_>, sums: &mut [Total])
     }
     sums.fill(Some(Totals::ZERO));
     for (column, record) in xs.run[..columns].iter().enumerate() {
-        add_column(layout, column, read(*record), sums);
+        // no cell is empty here; taken apart once a column, so that no row asks again
+        if let Some(factor) = read(*record) {
+            add_column(layout, column, factor, sums);
+        }
     }
     if columns > 0 {
         let rows = layout.rows().min(sums.len());

@@ -3,7 +3,7 @@ ghost use Rattle.std.specs.Prelude.{◌≡◌, ◌+◌, ◌<◌, ◌≤◌, min,
 ghost use Rattle.layouts.specs.Layers.{symmetric, symmetric_sound};
 
 use crate::layout::Layout;
-use crate::lines::{all, smaller};
+use crate::lines::{smaller, whole};
 use crate::side::Side;
 use cells::cell::{Cell, Places};
 
@@ -14,14 +14,15 @@ pub struct Symmetric<L> {
     pub side: Side,
 }
 
-// The places of a row that has its places before the diagonal from some and those behind it from others.
-fn around(row: usize, all: Places, before: Places, after: Places) -> Places
-    requires { row < all.to }
-    ensures { (result.from ≡ min row before.from) × (result.to ≡ max (row + 1) (min all.to after.to)) }
+// Of the places of a row, those from the first of some to the last of others, the one on the diagonal among them: before the diagonal a row
+// holds what a row of the stored triangle holds, and behind it what a column holds, or the other way round.
+fn around(row: usize, line: Places, before: Places, after: Places) -> Places
+    requires { row < line.to }
+    ensures { (result.from ≡ min row before.from) × (result.to ≡ max (row + 1) (min line.to after.to)) }
 {
     Places {
         from: row.min(before.from),
-        to: all.to.min(after.to).max(row + 1),
+        to: line.to.min(after.to).max(row + 1),
     }
 }
 
@@ -51,14 +52,14 @@ impl<L: Layout> Layout for Symmetric<L> {
     }
 
     fn across(&self, row: usize) -> Places {
-        let all = all(smaller(&self.below));
-        if row < all.to {
+        let line = whole(smaller(&self.below));
+        if row < line.to {
             match self.side {
-                Side::Lower => around(row, all, self.below.across(row), self.below.down(row)),
-                Side::Upper => around(row, all, self.below.down(row), self.below.across(row)),
+                Side::Lower => around(row, line, self.below.across(row), self.below.down(row)),
+                Side::Upper => around(row, line, self.below.down(row), self.below.across(row)),
             }
         } else {
-            all
+            line
         }
     }
 

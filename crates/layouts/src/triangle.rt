@@ -5,7 +5,7 @@ ghost use Rattle.layouts.specs.Spans.{half_from, half_to};
 
 use crate::entries::{is_on, zero};
 use crate::layout::{Layout, Triangular};
-use crate::lines::{all, half, overlap, smaller};
+use crate::lines::{half, overlap, smaller, whole};
 use crate::side::Side;
 use cells::cell::{Cell, Places};
 
@@ -16,13 +16,13 @@ pub struct Triangle<L> {
     pub side: Side,
 }
 
-// Of all places of a line, those below that are on a side; all where the line has none on the diagonal.
-fn line(side: Side, diagonal: usize, all: Places, below: Places) -> Places
-    ensures all { all.to ≤ diagonal → (result.from ≡ all.from) × (result.to ≡ all.to) }
-    ensures kept { diagonal < all.to → (result.to ≡ min (half_to side diagonal all.to) (max (half_from side diagonal) below.to)) × (result.from ≡ min result.to (max (half_from side diagonal) below.from)) }
+// Of the places of a line, those of the layout below that are on a side; all where the line has none on the diagonal.
+fn kept(side: Side, diagonal: usize, line: Places, below: Places) -> Places
+    ensures none { line.to ≤ diagonal → (result.from ≡ line.from) × (result.to ≡ line.to) }
+    ensures kept { diagonal < line.to → (result.to ≡ min (half_to side diagonal line.to) (max (half_from side diagonal) below.to)) × (result.from ≡ min result.to (max (half_from side diagonal) below.from)) }
 {
-    let places = half(side, diagonal, all);
-    if diagonal < all.to {
+    let places = half(side, diagonal, line);
+    if diagonal < line.to {
         overlap(below, places)
     } else {
         places
@@ -56,13 +56,13 @@ impl<L: Layout> Layout for Triangle<L> {
     }
 
     fn across(&self, row: usize) -> Places {
-        let all = all(smaller(&self.below));
-        line(self.side, row, all, self.below.across(row))
+        let line = whole(smaller(&self.below));
+        kept(self.side, row, line, self.below.across(row))
     }
 
     fn down(&self, column: usize) -> Places {
-        let all = all(smaller(&self.below));
-        line(self.side.opposite(), column, all, self.below.down(column))
+        let line = whole(smaller(&self.below));
+        kept(self.side.opposite(), column, line, self.below.down(column))
     }
 }
 

@@ -6,9 +6,9 @@ ghost use Rattle.layouts.specs.Layers.{smaller as smaller-of, unit_fit, unit_dia
 
 use crate::figures::Figures;
 use crate::layout::{Layout, Triangular};
-use crate::lines::{all, smaller};
+use crate::lines::{smaller, whole};
 use crate::side::Side;
-use cells::cell::{Cell, Interval, Places};
+use cells::cell::{Cell, Places, Scale};
 
 // One is [unit, unit], `unit` being the number of steps to one unit, from 1 to 100,000; another number means the 0 by 0
 // matrix.
@@ -22,11 +22,7 @@ fn one(unit: i64) -> Cell
     requires { unit_fit unit ≡ true }
     ensures { cell_value result ≡ bounds unit unit }
 {
-    let steps = unit as i32;
-    Some(Interval {
-        lower: steps,
-        upper: steps,
-    })
+    Scale { steps: unit }.one()
 }
 
 // The unit is its one figure; what is below has a check of its own.
@@ -40,13 +36,13 @@ impl<T> Figures for UnitDiagonal<T> {
 
 impl<T: Triangular> UnitDiagonal<T> {
     // The places of a line: those of the line below, and the one on the diagonal if it has one.
-    fn line(&self, diagonal: usize, below: Places) -> Places
+    fn with_one(&self, diagonal: usize, below: Places) -> Places
         ensures unfit { unit_fit self.now.unit ≡ false → (result.from ≡ 0) × (result.to ≡ 0) }
         ensures below { unit_fit self.now.unit ≡ true → smaller-of (T.Layout.meaning self.now.below) ≤ diagonal → (result.from ≡ below.from) × (result.to ≡ below.to) }
         ensures more { unit_fit self.now.unit ≡ true → diagonal < smaller-of (T.Layout.meaning self.now.below) → (result.from ≡ min diagonal below.from) × (result.to ≡ max (diagonal + 1) below.to) }
     {
         if !self.is_fit() {
-            all(0)
+            whole(0)
         } else if diagonal < smaller(&self.below) {
             Places {
                 from: diagonal.min(below.from),
@@ -91,11 +87,11 @@ impl<T: Triangular> Layout for UnitDiagonal<T> {
     }
 
     fn across(&self, row: usize) -> Places {
-        self.line(row, self.below.across(row))
+        self.with_one(row, self.below.across(row))
     }
 
     fn down(&self, column: usize) -> Places {
-        self.line(column, self.below.down(column))
+        self.with_one(column, self.below.down(column))
     }
 }
 

@@ -17,7 +17,7 @@ pub struct Divisor {
     ghost size: { unsigned_abs value ≤ 10000000000 },
 }
 
-// The least and the greatest value of an unrounded sum.
+// The least and the greatest value of an unrounded sum, two numbers with a size each, since they are divided apart.
 #[derive(Clone, Copy)]
 pub struct Sums {
     pub least: Unrounded,

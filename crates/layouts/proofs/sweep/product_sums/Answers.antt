@@ -1,15 +1,18 @@
-use Rattle.std.proofs.Common.{◌≡◌, ℕ, ◌+◌, ◌-◌, ◌*◌, ◌<◌, ◌≤◌, List, length, None, get_or, take, drop, length-drop, replicate, sym, subst, ap, ◌∙◌, ⊎_elim, rules, arith}
-use Rattle.std.proofs.lemmas.Bool.{cases_lt}
+use Rattle.std.proofs.Common.{◌≡◌, ℕ, ◌+◌, ◌-◌, ◌*◌, ◌<◌, ◌≤◌, true, List, length, None, get_or, drop, length-drop, replicate, sym, subst, ap, ◌∙◌, ⊎_elim, rules, arith}
+use Rattle.std.proofs.lemmas.Bool.{cases_lt, false≢true}
 use Rattle.std.proofs.lemmas.List.{get_or-replicate, length-take}
 use Rattle.std.proofs.Math.Seq.{of_parts}
-use Rattle.arithmetic.specs.Values.{Value, empty, zeros, times, total, Small}
+use Rattle.arithmetic.specs.Values.{Value, empty, bounds, zeros, times, total, Small}
 use Rattle.arithmetic.proofs.Sizes.{small_more}
-use Rattle.cells.specs.Cells.{Total, cell_value, total_value, cell_at}
+use Rattle.cells.specs.Cells.{Cell, Total, cell_value, total_value, cell_at}
+use Rattle.cells.specs.Reading.{read_first}
+use Rattle.cells.specs.Formulas.{sum_of_products}
 use Rattle.layouts.specs.Filled.{is_filled}
 use Rattle.layouts.specs.Rows.{row_sum}
 use Rattle.layouts.proofs.Skips.{lacked}
-use Rattle.layouts.proofs.Sweeps.{all_sums, end_kept, end_filled, filled_inside, read_first, outside_empty, sum_more}
+use Rattle.layouts.proofs.Sweeps.{all_sums, end_kept, end_filled, filled_inside, outside_empty, sum_more}
 use Rattle.layouts.proofs.sweep.product_sums.Goals as goal
+use Rattle.layouts.proofs.sweep.product_sums.Goals.{in-Some, in_default}
 
 pub returns-then-xs-columns : goal.returns-then-xs-columns
 returns-then-xs-columns g c =
@@ -28,25 +31,30 @@ loop-column-init g c =
     λ k h. ap (λ (l : List Total). total_value (get_or l k None)) filled ∙ ap total_value (get_or-replicate n k _ None (omega (arith, h, c.fill-2.ensures.len))) in
     (λ k h r. here k h, λ k h. let P : Value → Type 0 = Small 0 in subst P (sym (here k h)) (search rules), λ e. here)
 
-pub add_column-requires-clause-filled : goal.add_column-requires-clause-filled
-add_column-requires-clause-filled g c =
-    let x = c.args.xs in let j = c.loop-column.column in
-    let h : j < length (take c.columns-columns.result x.run.now) = c.loop-column-test.true in
-    ap is_filled (read_first x.run.now c.columns-columns.result j _ (cell_value c.read.result) h c.read.ensures)
-    ∙ x.before j (omega arith) (omega (arith, h, length-take c.columns-columns.result x.run.now, c.if-xs-columns.false))
-
 pub loop-column-preserved : goal.loop-column-preserved
 loop-column-preserved g c =
     let m = g.L.Layout.meaning c.args.layout.now in let run = c.args.xs.run.now in let x : ℕ → Value = cell_at run in let l = c.loop-column in let j = l.column in
-    let new = c.add_column.new.sums in let same : length new ≡ length l.sums = c.add_column.auto.sums in
-    let read : cell_value c.read.result ≡ x j = read_first run c.columns-columns.result j _ (cell_value c.read.result) c.loop-column-test.true c.read.ensures in (
-      λ k h r. let lt : k < length l.sums = omega (arith, same, h) in
-          sum_more (λ j. times (m.entry k j) (x j)) j (total_value (get_or l.sums k None)) (times (m.entry k j) (cell_value c.read.result)) (total_value (get_or new k None))
-          (l.invariant.0 k lt r) (ap (times (m.entry k j)) read) (c.add_column.ensures.is k lt r),
-      λ k h. let lt : k < length l.sums = omega (arith, same, h) in
-          small_more (17179607041 * j + 17179607041) (17179607041 * (j + 1)) (total_value (get_or new k None)) (omega arith) (c.add_column.ensures.size k lt (17179607041 * j) (l.invariant.1 k lt)),
-      λ e k h. absurd (omega (arith, e)),
-    )
+    let read : cell_value c.read.result ≡ x j = c.read.ensures ∙ read_first run c.columns-columns.result j _ c.loop-column-test.true in
+    let filled : is_filled (cell_value c.read.result) ≡ true =
+    ap is_filled read ∙ c.args.xs.before j (omega arith) (omega (arith, c.loop-column-test.true, length-take c.columns-columns.result run, c.if-xs-columns.false)) in
+    let Kept : List Total → Type 0 = λ sums.
+    ((k : ℕ) → k < length sums → k < m.rows → total_value (get_or sums k None) ≡ sum_of_products (m.entry k) x 0 (j + 1))
+    × ((k : ℕ) → k < length sums → Small (17179607041 * (j + 1)) (total_value (get_or sums k None)))
+    × (j + 1 ≡ 0 → (k : ℕ) → k < length sums → total_value (get_or sums k None) ≡ zeros) in
+    elim c.match-read.branch [
+      | in-Some w ↦
+          let new = w.add_column.new.sums in let same : length new ≡ length l.sums = w.add_column.auto.sums in
+          let factor = bounds w.in-Some.factor.lower w.in-Some.factor.upper in
+          subst Kept (sym w.sums-is) (
+            λ k h r. let lt : k < length l.sums = omega (arith, same, h) in
+                sum_more (λ j. times (m.entry k j) (x j)) j (total_value (get_or l.sums k None)) (times (m.entry k j) factor) (total_value (get_or new k None))
+                (l.invariant.0 k lt r) (ap (times (m.entry k j)) (sym (ap cell_value w.in-Some.is) ∙ read)) (w.add_column.ensures.is k lt r),
+            λ k h. let lt : k < length l.sums = omega (arith, same, h) in
+                small_more (17179607041 * j + 17179607041) (17179607041 * (j + 1)) (total_value (get_or new k None)) (omega arith) (w.add_column.ensures.size k lt (17179607041 * j) (l.invariant.1 k lt)),
+            λ e k h. absurd (omega (arith, e)),
+          )
+      | in_default w ↦ absurd (false≢true (sym (ap (λ (r : Cell). is_filled (cell_value r)) w.in_default.is) ∙ filled))
+    ]
 
 pub returns-then-columns-gt0 : goal.returns-then-columns-gt0
 returns-then-columns-gt0 g c =

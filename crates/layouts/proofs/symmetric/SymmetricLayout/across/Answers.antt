@@ -10,16 +10,16 @@ pub returns-in-Lower : goal.returns-in-Lower
 returns-in-Lower g c =
     let m : Matrix = g.L.Layout.meaning c.args.self.now.below in let i = c.args.row in let s = c.around.result in
     let P : Side → Type 0 = λ side. ZeroAcross (symmetric side m) i s in
-    let n : c.all-all.result.to ≡ smaller m = c.all-all.ensures.1 ∙ c.smaller.ensures in
+    let n : c.whole-line.result.to ≡ smaller m = c.whole-line.ensures.1 ∙ c.smaller.ensures in
     subst P (sym c.in-Lower.is)
-    (lower_across m i c.across.result c.down.result s (omega (arith, n, c.if-row-all.true)) c.across.ensures c.down.ensures c.around.ensures.0
+    (lower_across m i c.across.result c.down.result s (omega (arith, n, c.if-row-line.true)) c.across.ensures c.down.ensures c.around.ensures.0
     (c.around.ensures.1 ∙ ap (λ (k : ℕ). max (i + 1) (min k c.down.result.to)) n))
 
 pub returns-in-Upper : goal.returns-in-Upper
 returns-in-Upper g c =
     let m : Matrix = g.L.Layout.meaning c.args.self.now.below in let i = c.args.row in let s = c.around-in-Upper.result in
     let P : Side → Type 0 = λ side. ZeroAcross (symmetric side m) i s in
-    let n : c.all-all.result.to ≡ smaller m = c.all-all.ensures.1 ∙ c.smaller.ensures in
+    let n : c.whole-line.result.to ≡ smaller m = c.whole-line.ensures.1 ∙ c.smaller.ensures in
     subst P (sym c.in-Upper.is)
-    (upper_across m i c.across-in-Upper.result c.down-in-Upper.result s (omega (arith, n, c.if-row-all.true)) c.across-in-Upper.ensures c.down-in-Upper.ensures c.around-in-Upper.ensures.0
+    (upper_across m i c.across-in-Upper.result c.down-in-Upper.result s (omega (arith, n, c.if-row-line.true)) c.across-in-Upper.ensures c.down-in-Upper.ensures c.around-in-Upper.ensures.0
     (c.around-in-Upper.ensures.1 ∙ ap (λ (k : ℕ). max (i + 1) (min k c.across-in-Upper.result.to)) n))
