@@ -1,5 +1,6 @@
 // What C calls, for square matrices, worked column by column: Σ L_ij·x_j for each row that `sums` has a place for. The answer, a
-// bool since a Result does not cross to C, is false where there are more than 1,024 sums, which are then left as they were.
+// bool since a Result does not cross to C, is false where there are more than 1,024 sums, which are then left as they were. C calls
+// each by its name, and can call no generic function.
 ghost use Rattle.std.specs.Prelude.{length};
 ghost use Rattle.cells.specs.Cells.{cell_at};
 ghost use Rattle.layouts.specs.declared.side.Side.TheVariants.{Lower};

@@ -20,7 +20,7 @@ fn tell_all(totals: &[Total], sums: &mut [SumRecord])
     requires { length sums.old ≡ length totals.now }
     ensures { map sum_told sums.new ≡ map total_value totals.now }
 {
-    // by the row, since of sums that are written through a zip a proof knows nothing
+    // by the row: `zip` was tried, and of the sums that are written through it a proof knows nothing
     for (row, sum) in sums.iter_mut().enumerate() {
         *sum = SumRecord::from(totals[row]);
     }
