@@ -1,4 +1,5 @@
-// What C calls, for square matrices, worked row by row: Σ L_ij·x_j for each row that `sums` has a place for.
+// What C calls, for square matrices, worked row by row: Σ L_ij·x_j for each row that `sums` has a place for. C calls
+// each by its name, and can call no generic function.
 ghost use Rattle.std.specs.Prelude.{◌≡◌, map, length};
 ghost use Rattle.cells.specs.Cells.{cell_at};
 ghost use Rattle.layouts.specs.declared.side.Side.TheVariants.{Lower};

@@ -53,6 +53,7 @@ pub(crate) fn packed<'a>(run: &'a [Record], n: usize) -> Packed<'a>
     }
 }
 
+// In two clauses: from one, on the meaning of the whole, the check doesn't find the proofs of what C calls.
 pub(crate) fn symmetric<'a>(run: &'a [Record], n: usize) -> Symmetric<Packed<'a>>
     ensures side { result.side ≡ Lower }
     ensures below { ⟦<Packed<'a> as Layout>⟧.meaning result.below ≡ packed run.now Lower n }

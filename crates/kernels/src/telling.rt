@@ -1,8 +1,8 @@
 // Sums worked out over any layout, and told in the form that C reads.
-ghost use Rattle.std.specs.Prelude.{◌≡◌, ◌≤◌, map, length, nat_le, is_ok, OnOk, OnErr};
+ghost use Rattle.std.specs.Prelude.{◌≡◌, ◌≤◌, map, length, is_ok};
 ghost use Rattle.cells.specs.Cells.{total_value, cell_at};
 ghost use Rattle.layouts.specs.Rows.{row_sums};
-ghost use Rattle.kernels.specs.Sums.{sum_told};
+ghost use Rattle.kernels.specs.Sums.{sum_told, ToldIfFew};
 
 use crate::sum::SumRecord;
 use cells::cell::{Record, Total};
@@ -20,7 +20,7 @@ fn tell_all(totals: &[Total], sums: &mut [SumRecord])
     requires { length sums.old ≡ length totals.now }
     ensures { map sum_told sums.new ≡ map total_value totals.now }
 {
-    // by the row, since of sums that are written through a zip a proof knows nothing
+    // by the row: `zip` was tried, and of the sums that are written through it a proof knows nothing
     for (row, sum) in sums.iter_mut().enumerate() {
         *sum = SumRecord::from(totals[row]);
     }
@@ -44,9 +44,7 @@ pub(crate) fn by_columns<L: Layout>(
     xs: &[Record],
     sums: &mut [SumRecord],
 ) -> Result<(), TooManySums>
-    ensures answer { is_ok result ≡ nat_le (length sums.old) 1024 }
-    ensures done { OnOk result (map sum_told sums.new ≡ row_sums (L.Layout.meaning layout.now) (cell_at xs.now) (length sums.old)) }
-    ensures refused { OnErr result (sums.new ≡ sums.old) }
+    ensures { ToldIfFew (is_ok result) sums.old sums.new (row_sums (L.Layout.meaning layout.now) (cell_at xs.now) (length sums.old)) }
 {
     // a small product has a small array to set up
     match sums.len() {

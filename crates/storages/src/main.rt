@@ -30,7 +30,7 @@ fn numbered() -> [Record; PLACES] {
     })
 }
 
-// The storages that symmetric and triangular matrices are read from, with what a heading says of each.
+// The sizes of the storages that symmetric and triangular matrices are read from.
 const DENSE: &str = "4 by 4, stride 5";
 
 const BAND: &str = "5 by 5, 2 off the diagonal, stride 4";
@@ -84,33 +84,75 @@ impl fmt::Display for Printed {
     }
 }
 
-// What stands above a matrix that is read from one side: BLAS's name of the scheme, the side, and the size.
+// A scheme that symmetric or triangular matrices are read from: BLAS's name of it, and the size.
 #[derive(Clone, Copy)]
-struct Heading<'a> {
-    scheme: &'a str,
-    side: Side,
-    size: &'a str,
+struct Scheme {
+    name: &'static str,
+    size: &'static str,
 }
 
-impl fmt::Display for Heading<'_> {
+const SY: Scheme = Scheme {
+    name: "SY",
+    size: DENSE,
+};
+
+const SB: Scheme = Scheme {
+    name: "SB",
+    size: BAND,
+};
+
+const SP: Scheme = Scheme {
+    name: "SP",
+    size: PACKED,
+};
+
+const TR: Scheme = Scheme {
+    name: "TR",
+    size: DENSE,
+};
+
+const TB: Scheme = Scheme {
+    name: "TB",
+    size: BAND,
+};
+
+const TP: Scheme = Scheme {
+    name: "TP",
+    size: PACKED,
+};
+
+// What stands above a matrix that is read from one side of a scheme.
+#[derive(Clone, Copy)]
+struct Heading {
+    scheme: Scheme,
+    side: Side,
+}
+
+impl fmt::Display for Heading {
     fn fmt<W: fmt::Write>(&self, f: &mut fmt::Formatter<W>) -> fmt::Result {
         let side = match self.side {
             Side::Lower => "lower",
             Side::Upper => "upper",
         };
-        write!(f, "{} {side}, {}", self.scheme, self.size)
+        write!(f, "{} {side}, {}", self.scheme.name, self.scheme.size)
     }
 }
 
-fn print_row<L: Layout>(rt: &HostRuntime, matrix: &L, row: usize) -> io::Result<()> {
-    // a layout is asked by row and column, and is no slice
-    for column in 0..matrix.columns() {
-        if column > 0 {
-            print!(rt; " ")?;
-        }
-        print!(rt; "{}", Printed(matrix.entry(row, column)))?;
+// A row of a matrix as it is printed.
+#[derive(Clone, Copy)]
+struct Row<'a, L> {
+    matrix: &'a L,
+    row: usize,
+}
+
+impl<'a, L: Layout> fmt::Display for Row<'a, L> {
+    fn fmt<W: fmt::Write>(&self, f: &mut fmt::Formatter<W>) -> fmt::Result {
+        let columns = 0..self.matrix.columns();
+        f.write_joined(
+            columns.map(|column| Printed(self.matrix.entry(self.row, column))),
+            " ",
+        )
     }
-    println!(rt)
 }
 
 fn print_matrix<L: Layout>(
@@ -119,8 +161,9 @@ fn print_matrix<L: Layout>(
     matrix: &L,
 ) -> io::Result<()> {
     println!(rt; "{heading}")?;
+    // a layout is asked by row and column, and is no slice
     for row in 0..matrix.rows() {
-        print_row(rt, matrix, row)?;
+        println!(rt; "{}", Row { matrix, row })?;
     }
     println!(rt)
 }
@@ -142,29 +185,23 @@ fn print_general<L: Layout>(rt: &HostRuntime, heading: &str, matrix: &L) -> io::
 // Each side of a storage, as a symmetric matrix.
 fn print_symmetric<L: Layout + Drop, F: Fn(Side) -> L>(
     rt: &HostRuntime,
-    scheme: &str,
-    size: &str,
+    scheme: Scheme,
     stored: F,
 ) -> io::Result<()>
     requires { F.IsAlwaysCallable stored }
 {
     for side in SIDES {
         let below = stored(side);
-        let heading = Heading { scheme, side, size };
+        let heading = Heading { scheme, side };
         print_matrix(rt, heading, &Symmetric { below, side })?;
     }
     Ok(())
 }
 
 // With the diagonal that is stored and with ones on it, then both transposed.
-fn print_triangle<T: Triangular>(
-    rt: &HostRuntime,
-    scheme: &str,
-    size: &str,
-    matrix: &T,
-) -> io::Result<()> {
+fn print_triangle<T: Triangular>(rt: &HostRuntime, scheme: Scheme, matrix: &T) -> io::Result<()> {
     let side = matrix.side();
-    let heading = Heading { scheme, side, size };
+    let heading = Heading { scheme, side };
     let with_ones_heading = format_args!("{heading}, unit diagonal");
     let with_ones = UnitDiagonal {
         below: matrix,
@@ -179,14 +216,13 @@ fn print_triangle<T: Triangular>(
 // Each side of a storage, as a triangle.
 fn print_triangular<T: Triangular + Drop, F: Fn(Side) -> T>(
     rt: &HostRuntime,
-    scheme: &str,
-    size: &str,
+    scheme: Scheme,
     stored: F,
 ) -> io::Result<()>
     requires { F.IsAlwaysCallable stored }
 {
     for side in SIDES {
-        print_triangle(rt, scheme, size, &stored(side))?;
+        print_triangle(rt, scheme, &stored(side))?;
     }
     Ok(())
 }
@@ -211,16 +247,15 @@ fn print_generals(rt: &HostRuntime, run: &[Record; PLACES]) -> io::Result<()> {
 }
 
 fn print_symmetrics(rt: &HostRuntime, run: &[Record; PLACES]) -> io::Result<()> {
-    print_symmetric(rt, "SY", DENSE, |_| dense(run))?;
-    print_symmetric(rt, "SB", BAND, |side| band(run, side))?;
-    print_symmetric(rt, "SP", PACKED, |side| packed(run, side))
+    print_symmetric(rt, SY, |_| dense(run))?;
+    print_symmetric(rt, SB, |side| band(run, side))?;
+    print_symmetric(rt, SP, |side| packed(run, side))
 }
 
 fn print_triangulars(rt: &HostRuntime, run: &[Record; PLACES]) -> io::Result<()> {
     print_triangular(
         rt,
-        "TR",
-        DENSE,
+        TR,
         |side| Triangle {
             below: dense(run),
             side,
@@ -228,14 +263,13 @@ fn print_triangulars(rt: &HostRuntime, run: &[Record; PLACES]) -> io::Result<()>
     )?;
     print_triangular(
         rt,
-        "TB",
-        BAND,
+        TB,
         |side| Triangle {
             below: band(run, side),
             side,
         },
     )?;
-    print_triangular(rt, "TP", PACKED, |side| packed(run, side))
+    print_triangular(rt, TP, |side| packed(run, side))
 }
 
 fn main(rt: HostRuntime) -> io::Result<()> {
