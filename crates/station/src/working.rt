@@ -57,10 +57,7 @@ pub fn work_out(rounding: &mut Rounding, junction: &Junction, place: usize) -> O
     ensures lack { TellsLack (lack_of junction.now.readings place) result }
 {
     let record = pressure_at(rounding, junction, place)?;
-    match read(record) {
-        None => Err(NoPair::Lacking(why(&junction.readings, place))),
-        Some(pair) => Ok(pair),
-    }
+    read(record).ok_or_else(|| NoPair::Lacking(why(&junction.readings, place)))
 }
 
 // What is found of each tip, in the order of the line.
