@@ -11,7 +11,7 @@ use cells::cell::Record;
 use cells::reading::read;
 use std::fmt;
 
-#[derive(Clone, Copy)]
+#[derive(Clone, Copy, PartialEq, Eq)]
 pub enum Lack {
     NothingGiven,
     Broken,
@@ -23,7 +23,7 @@ impl Reason for Lack {
     ghost own = { own_lack };
 
     fn is_own(&self) -> bool {
-        !matches!(self, Lack::NeighbourMissing)
+        *self != Lack::NeighbourMissing
     }
 }
 

@@ -70,7 +70,7 @@ pub fn findings(heap: Global, line: &[Junction; BOXES]) -> Result<Vec<Finding<La
     let mut rounding = Rounding::new();
     let mut found = Vec::new(heap);
     for (nth, junction) in line.iter().enumerate() {
-        // a place is one in every run of the box
+        // a place is one in every run of the box; over the dips in place of a range, the loop's proof did not close
         for place in 0..TIPS_OF_A_BOX {
             let row = TIPS_OF_A_BOX * nth + place;
             let outcome = work_out(&mut rounding, junction, place);
