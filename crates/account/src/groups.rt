@@ -8,7 +8,8 @@ use crate::standing::Standing;
 use std::fmt;
 
 // A tip is at fault where it has no pair, and that for no neighbour's sake. An enum and no closures: a group is counted, listed
-// and put in a table of tasks, and one definition says what each is.
+// and put in a table of tasks, and one definition says what each is. The four names of `Standing` stand here again, since a
+// group is one word to count and to list by.
 #[derive(Clone, Copy)]
 pub enum Group {
     WorkedOut,
@@ -26,7 +27,7 @@ impl<L: Reason> Finding<L> {
         ensures { result ≡ member L.own group self.now }
     {
         match group {
-            Group::WorkedOut => matches!(self.outcome, Ok(_)),
+            Group::WorkedOut => self.outcome.is_ok(),
             Group::Lacking => matches!(self.outcome, Err(NoPair::Lacking(_))),
             Group::PastLimit => matches!(self.outcome, Err(NoPair::PastLimit(_))),
             Group::AtFault => match &self.outcome {
@@ -34,10 +35,10 @@ impl<L: Reason> Finding<L> {
                 Err(NoPair::Lacking(lack)) => lack.is_own(),
                 Err(NoPair::PastLimit(_)) => true,
             },
-            Group::Inside => matches!(self.standing, Standing::Inside),
-            Group::Outside => matches!(self.standing, Standing::Outside),
-            Group::NoDip => matches!(self.standing, Standing::NoDip),
-            Group::NotCompared => matches!(self.standing, Standing::NotCompared),
+            Group::Inside => self.standing == Standing::Inside,
+            Group::Outside => self.standing == Standing::Outside,
+            Group::NoDip => self.standing == Standing::NoDip,
+            Group::NotCompared => self.standing == Standing::NotCompared,
         }
     }
 }

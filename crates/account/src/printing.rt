@@ -8,7 +8,8 @@ use cells::cell::Interval;
 use rounding::rest::dividing::LIMIT;
 use std::{fmt, io};
 
-// What each program says in its own words: the lines below the scale, each with its end, and of the tips that lack something.
+// What each program says in its own words: `notes` are the lines below the scale, each with its line end, and `lacking` are the
+// words that follow the count of the tips that lack something.
 #[derive(Clone, Copy)]
 pub struct Words<'a> {
     pub notes: &'a str,
@@ -113,12 +114,13 @@ const TASKS: [(Group, &str); 3] = [
 fn print_next<L: Reason + Copy>(rt: &impl Print, findings: &[Finding<L>]) -> io::Result<()> {
     print!(rt; "Next:")?;
     // a tip whose dip lies inside leaves nothing to do
-    if count(findings, Group::Inside) == findings.len() {
+    if findings.iter().all(|f| f.is_in(Group::Inside)) {
         return println!(rt; " nothing, every dip lies inside.");
     }
     let due = TASKS
         .into_iter()
-        .filter(|(group, _)| count(findings, *group) > 0);
+        .filter(|(group, _)| findings.iter().any(|f| f.is_in(*group)));
+    // no `write_joined`: joined, what is due would need a type of its own with a `Display`
     for (k, (group, task)) in due.enumerate() {
         let separator = if k == 0 { "" } else { ";" };
         print!(rt; "{separator} {task} {}", Tips { findings, group })?;

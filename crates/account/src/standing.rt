@@ -11,7 +11,7 @@ use cells::reading::read;
 use std::fmt;
 
 // A dip is compared only with a tip that was worked out.
-#[derive(Clone, Copy)]
+#[derive(Clone, Copy, PartialEq, Eq)]
 pub enum Standing {
     Inside,
     Outside,
@@ -37,10 +37,7 @@ impl fmt::Display for Standing {
 pub fn holds(pair: Interval, dip: i32) -> bool
     ensures { result ≡ nested (bounds dip dip) (bounds pair.lower pair.upper) }
 {
-    match read(Record::from((dip, dip))) {
-        None => false,
-        point => inside(point, Some(pair)),
-    }
+    read(Record::from((dip, dip))).is_some_and(|point| inside(Some(point), Some(pair)))
 }
 
 // Where the dip of a tip stands, once it is known what became of the tip.

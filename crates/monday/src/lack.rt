@@ -3,9 +3,8 @@ ghost use Rattle.std.specs.Prelude.{◌≡◌, true, Some};
 ghost use Rattle.monday.specs.Lacks.{lack_of, lack_words};
 
 use account::outcome::Reason;
-use account::records::is_blank;
+use account::records::{Given, given_by};
 use cells::cell::Record;
-use cells::reading::read;
 use std::fmt;
 
 // An enum of its own beside that of a line of boxes: a tip that is read alone can lack no neighbour.
@@ -37,16 +36,13 @@ impl fmt::Display for Lack {
     }
 }
 
-// Why a tip without a pair has none. The empty record is what an instrument leaves that gave nothing; a record that breaks
-// the rule of a cell was spoilt later; behind a good reading the calibration or the offset is what fails.
+// Why a tip without a pair has none. Behind a good reading the calibration or the offset is what fails.
 pub fn why(reading: Record) -> Lack
     ensures { result ≡ lack_of reading }
 {
-    if is_blank(reading) {
-        return Lack::NothingGiven;
-    }
-    match read(reading) {
-        None => Lack::Broken,
-        Some(_) => Lack::Uncalibrated,
+    match given_by(reading) {
+        Given::Nothing => Lack::NothingGiven,
+        Given::Broken => Lack::Broken,
+        Given::Good => Lack::Uncalibrated,
     }
 }

@@ -1,7 +1,8 @@
 // The upstream line: what the logging station holds of each tip this month, in steps.
 ghost use Rattle.monday.specs.Runs.{Gathered, reading_of, calibration_of, offset_of};
 
-use cells::cell::{EMPTY, Record};
+use account::records::NOTHING;
+use cells::cell::Record;
 
 pub const TIPS: usize = 12;
 
@@ -14,9 +15,6 @@ pub struct Tip {
     pub offset: Record,
     pub dip: Option<i32>,
 }
-
-// The reading of an instrument that gave nothing.
-const NOTHING: (i32, i32) = (EMPTY.lower, EMPTY.upper);
 
 impl Tip {
     fn new(

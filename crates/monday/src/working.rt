@@ -36,10 +36,7 @@ pub fn work_out(rounding: &mut Rounding, line: &Line, row: usize) -> Outcome<Lac
         row,
     };
     let record = blend(rounding, factors, target, &line.readings)?;
-    match read(record) {
-        None => Err(NoPair::Lacking(why(record_at(&line.readings, row)))),
-        Some(pair) => Ok(pair),
-    }
+    read(record).ok_or_else(|| NoPair::Lacking(why(record_at(&line.readings, row))))
 }
 
 // What is found of each tip, in the order of the line.

@@ -1,5 +1,5 @@
-// The Monday account of the upstream line: for each tip the bounds of its pore pressure, and whether the month's dip
-// lies between them.
+// The Monday account of the upstream line, whose tips are read by junction boxes here: for each tip the bounds of its pore
+// pressure, worked out from all readings of its box, and whether the month's dip lies between them.
 #![tactic(auto)]
 
 use account::printing::{Words, print};

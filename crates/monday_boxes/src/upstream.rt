@@ -1,11 +1,9 @@
 // The upstream line: what the logging station holds of each junction box this month, in steps.
+use account::records::NOTHING;
 use cells::cell::{EMPTY, Record};
 use station::line::{BOXES, CALIBRATION_PLACES, Junction, TIPS_OF_A_BOX};
 
 type Pair = (i32, i32);
-
-// The reading of an instrument that gave nothing.
-const NOTHING: Pair = (EMPTY.lower, EMPTY.upper);
 
 fn records(pairs: [Pair; TIPS_OF_A_BOX]) -> [Record; TIPS_OF_A_BOX] {
     pairs.map(Record::from)

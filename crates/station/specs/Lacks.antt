@@ -2,9 +2,11 @@
 use Rattle.std.specs.Prelude.{ℕ, Bool, true, false, List, codes, slice_index_or}
 use Rattle.std.specs.List.{list_all}
 use Rattle.cells.specs.declared.cell.Record.{Record}
-use Rattle.cells.specs.Cells.{blank, read_as, cell_at}
+use Rattle.cells.specs.Cells.{blank, read_as}
 use Rattle.layouts.specs.Filled.{is_filled}
-use Rattle.account.specs.Lacks.{is_blank}
+use Rattle.account.specs.declared.records.Given.{Given}
+use Rattle.account.specs.declared.records.Given.TheVariants as given
+use Rattle.account.specs.Lacks.{given_by}
 use Rattle.station.specs.declared.lack.Lack.{Lack}
 use Rattle.station.specs.declared.lack.Lack.TheVariants.{NothingGiven, Broken, NeighbourMissing, Uncalibrated}
 
@@ -12,17 +14,16 @@ use Rattle.station.specs.declared.lack.Lack.TheVariants.{NothingGiven, Broken, N
 abbrev pub all_read : List Record → Bool
 all_read rs = list_all (λ r. is_filled (read_as r)) rs
 
--- the tip's own record is the one that an instrument leaves where it gives nothing; else it is read; else so is every
--- reading of the box
-abbrev pub lack_when : (nothing own all : Bool) → Lack
-lack_when true own all = NothingGiven
-lack_when false false all = Broken
-lack_when false true false = NeighbourMissing
-lack_when false true true = Uncalibrated
+-- by what the tip's own record gives, and by whether every reading of the box is good
+abbrev pub lack_when : Given → (all : Bool) → Lack
+lack_when given.Nothing all = NothingGiven
+lack_when given.Broken all = Broken
+lack_when given.Good false = NeighbourMissing
+lack_when given.Good true = Uncalibrated
 
 -- what the tip at a place of a box lacks
 abbrev pub lack_of : List Record → ℕ → Lack
-lack_of rs place = lack_when (is_blank (slice_index_or rs place blank)) (is_filled (cell_at rs place)) (all_read rs)
+lack_of rs place = lack_when (given_by (slice_index_or rs place blank)) (all_read rs)
 
 -- a tip at fault, and not for a neighbour's sake
 abbrev pub own_lack : Lack → Bool

@@ -6,12 +6,12 @@ ghost use Rattle.station.specs.Lacks.{all_read, lack_of, own_lack, lack_words};
 
 use crate::line::TIPS_OF_A_BOX;
 use account::outcome::Reason;
-use account::records::{is_blank, record_at};
+use account::records::{Given, given_by, record_at};
 use cells::cell::Record;
 use cells::reading::read;
 use std::fmt;
 
-#[derive(Clone, Copy)]
+#[derive(Clone, Copy, PartialEq, Eq)]
 pub enum Lack {
     NothingGiven,
     Broken,
@@ -23,7 +23,7 @@ impl Reason for Lack {
     ghost own = { own_lack };
 
     fn is_own(&self) -> bool {
-        !matches!(self, Lack::NeighbourMissing)
+        *self != Lack::NeighbourMissing
     }
 }
 
@@ -52,22 +52,16 @@ fn are_all_read(readings: &[Record; TIPS_OF_A_BOX]) -> bool
     readings.iter().all(|reading| is_read(*reading))
 }
 
-// Why a tip without a pair has none. The empty record is what an instrument leaves that gave nothing; a record that breaks
-// the rule of a cell was spoilt later. Behind a good reading another one of the box fails, since every reading of a box
-// counts at each of its tips; and behind good readings it is the tip's calibration or its offset.
+// Why a tip without a pair has none. Behind a good reading another one of the box fails, since every reading of a box counts
+// at each of its tips; and behind good readings it is the tip's calibration or its offset.
 pub fn why(readings: &[Record; TIPS_OF_A_BOX], place: usize) -> Lack
     ensures { result ≡ lack_of readings.now place }
 {
     let own = record_at(readings, place);
-    if is_blank(own) {
-        return Lack::NothingGiven;
-    }
-    if !is_read(own) {
-        return Lack::Broken;
-    }
-    if are_all_read(readings) {
-        Lack::Uncalibrated
-    } else {
-        Lack::NeighbourMissing
+    match given_by(own) {
+        Given::Nothing => Lack::NothingGiven,
+        Given::Broken => Lack::Broken,
+        Given::Good if are_all_read(readings) => Lack::Uncalibrated,
+        Given::Good => Lack::NeighbourMissing,
     }
 }

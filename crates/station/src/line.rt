@@ -11,10 +11,11 @@ pub const STRIDE: usize = 3;
 
 pub const CALIBRATION_PLACES: usize = STRIDE * TIPS_OF_A_BOX;
 
-// The records of a junction box, as the runs that its pressures are worked out over. Of each tip there is the reading, the
-// current of its loop in mA, the offset in kPa, and the dip, where one was taken: the pressure in kPa that the standpipe
-// beside the tip shows. Neighbouring channels of a box leak a little into one another, so the calibration is a matrix in
-// band storage, one place below the diagonal and one above: the kPa at one tip for each mA that is read at another.
+// What is held of a junction box: the runs that its pressures are worked out over, and the dips that these are compared with.
+// Of each tip there is the reading, the current of its loop in mA, and the offset in kPa. Neighbouring channels of a box leak
+// a little into one another, so the calibration is a matrix in band storage, one place below the diagonal and one above: the
+// kPa at one tip for each mA that is read at another. A dip, where one was taken, is the pressure in kPa that the standpipe
+// beside the tip shows.
 #[derive(Clone, Copy)]
 pub struct Junction {
     pub readings: [Record; TIPS_OF_A_BOX],

@@ -57,10 +57,7 @@ pub fn work_out(rounding: &mut Rounding, junction: &Junction, place: usize) -> O
     ensures lack { TellsLack (lack_of junction.now.readings place) result }
 {
     let record = pressure_at(rounding, junction, place)?;
-    match read(record) {
-        None => Err(NoPair::Lacking(why(&junction.readings, place))),
-        Some(pair) => Ok(pair),
-    }
+    read(record).ok_or_else(|| NoPair::Lacking(why(&junction.readings, place)))
 }
 
 // What is found of each tip, in the order of the line.
@@ -73,7 +70,7 @@ pub fn findings(heap: Global, line: &[Junction; BOXES]) -> Result<Vec<Finding<La
     let mut rounding = Rounding::new();
     let mut found = Vec::new(heap);
     for (nth, junction) in line.iter().enumerate() {
-        // a place is one in every run of the box
+        // a place is one in every run of the box; over the dips in place of a range, the loop's proof did not close
         for place in 0..TIPS_OF_A_BOX {
             let row = TIPS_OF_A_BOX * nth + place;
             let outcome = work_out(&mut rounding, junction, place);
