@@ -3,6 +3,7 @@
 use Rattle.std.specs.Prelude.{◌≡◌, ℕ, ◌+◌, ◌<◌, List, ℤ, pos, Ok, Err, Option, Result, slice_index_or}
 use Rattle.arithmetic.specs.Sets.{Set}
 use Rattle.arithmetic.specs.Values.{Value, Tightly}
+use Rattle.cells.specs.declared.cell.Record.{Record}
 use Rattle.cells.specs.declared.fault.CellFault.{CellFault}
 use Rattle.cells.specs.Cells.{IsCell}
 use Rattle.cells.specs.Faults.{kept, in_row}
@@ -11,9 +12,10 @@ use Rattle.account.specs.Lacks.{TellsLack}
 use Rattle.account.specs.Outcomes.{told, as_read}
 use Rattle.account.specs.Standings.{standing_of}
 
--- what the records of a tip say: the cell of its pressure, the pressures that it can have, its dip, and what it lacks if it
--- lacks something
+-- what the records of a tip say: its reading, the cell of its pressure, the pressures that it can have, its dip, and what it
+-- lacks if it lacks something
 pub record Said (L : Type 0) : Type 1 where
+  pub reading : Record
   pub pressure : Value
   pub pressures : Set
   pub dip : Option ℤ
@@ -28,6 +30,7 @@ Sound s (Err f) = IsCell s.pressure → ⊥
 -- the place is the row under which a fault is told
 pub record Found {L : Type 0} (s : Said L) (row place : ℕ) (f : Finding L) : Type 0 where
   pub number : f.number ≡ row + 1
+  pub reading : f.reading ≡ s.reading
   pub dip : f.dip ≡ s.dip
   pub outcome : told place f.outcome ≡ as_read (in_row place (kept s.pressure))
   pub lack : TellsLack s.lack f.outcome

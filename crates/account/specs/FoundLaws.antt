@@ -36,12 +36,12 @@ sound_kept laws s row tight = go (kept s.pressure) refl
     go (Err f) e = λ g. let o = laws.kept_cell s.pressure g in let z : ◌≡◌ {A = ℕ} 0 1 = cc in absurd (omega arith)
 
 -- the finding of a tip
-pub found : {L : Type 0} (laws : Laws) (s : Said L) (row place : ℕ) (o : Result Interval (NoPair L)) → Tightly (pos 100) s.pressures s.pressure
+pub found : {L : Type 0} (laws : Laws) (s : Said L) (row place : ℕ) (reading : Record) (o : Result Interval (NoPair L)) → reading ≡ s.reading → Tightly (pos 100) s.pressures s.pressure
     → told place o ≡ as_read (in_row place (kept s.pressure)) → TellsLack s.lack o
-    → Found s row place (record { number = row + 1; dip = s.dip; outcome = o; standing = standing_of o s.dip })
-found laws s row place o tight out lack =
+    → Found s row place (record { number = row + 1; reading = reading; dip = s.dip; outcome = o; standing = standing_of o s.dip })
+found laws s row place reading o own tight out lack =
     let P : Result Value CellFault → Type 0 = Sound s in
-    record { number = refl; dip = refl; outcome = out; lack = lack; sound = subst P (sym out) (sound_kept laws s place tight); standing = refl }
+    record { number = refl; reading = own; dip = refl; outcome = out; lack = lack; sound = subst P (sym out) (sound_kept laws s place tight); standing = refl }
 
 -- x is pushed behind the m findings of the first rows
 pub found_more : {T L : Type 0} (said : ℕ → T → Said L) (place : ℕ → ℕ) (row m : ℕ) (before after : List (Finding L)) (x : Finding L) → m ≡ row → AllFound said place row before

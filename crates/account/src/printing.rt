@@ -145,6 +145,7 @@ pub fn print<L: Reason + fmt::Display + Copy>(
 #[cfg(test)]
 mod tests {
     use super::*;
+    use cells::cell::EMPTY;
     use rounding::fault::Bound;
 
     #[derive(Clone, Copy)]
@@ -173,9 +174,9 @@ mod tests {
             upper: 39,
         };
         let findings = [
-            Finding::new(1, Some(10), Ok(pair)),
-            Finding::new(2, None, Err(NoPair::Lacking(Silent))),
-            Finding::new(3, Some(20), Err(NoPair::PastLimit(Bound::Upper))),
+            Finding::new(1, EMPTY, Some(10), Ok(pair)),
+            Finding::new(2, EMPTY, None, Err(NoPair::Lacking(Silent))),
+            Finding::new(3, EMPTY, Some(20), Err(NoPair::PastLimit(Bound::Upper))),
         ];
         let words = Words {
             notes: "",

@@ -1,5 +1,5 @@
 -- What is worked out over the runs of a line is what the tip's own records say. Assumes the laws of cells.
-use Rattle.std.proofs.Common.{◌≡◌, ℕ, ◌+◌, ◌<◌, List, length, get_or, pos, Result, ap, ◌∙◌}
+use Rattle.std.proofs.Common.{◌≡◌, ℕ, ◌+◌, ◌<◌, List, length, get_or, pos, Result, refl, ap, ◌∙◌}
 use Rattle.std.proofs.lemmas.List.{get_or_default}
 use Rattle.cells.specs.declared.cell.Interval.{Interval}
 use Rattle.cells.specs.declared.cell.Record.{Record}
@@ -42,9 +42,9 @@ own_records tips line row t h g =
 -- z stands past the end of the tips, and so does t
 pub found_here : (laws : Laws) (tips : List Tip) (line : Line) (row : ℕ) (z : Tip) (o : Result Interval (NoPair Lack)) → row < length tips → IsLineOf tips line
     → told row o ≡ as_read (worked_at line row) → TellsLack (lack_of (get_or line.readings row blank)) o
-    → (t : Tip) → Found (said (get_or tips row t)) row row (record { number = row + 1; dip = (get_or tips row z).dip; outcome = o; standing = standing_of o (get_or tips row z).dip })
+    → (t : Tip) → Found (said (get_or tips row t)) row row (record { number = row + 1; reading = (get_or tips row z).reading; dip = (get_or tips row z).dip; outcome = o; standing = standing_of o (get_or tips row z).dip })
 found_here laws tips line row z o h g e k t =
     let tip : Tip = get_or tips row t in
     let same : get_or tips row z ≡ tip = get_or_default tips row z t h in
     let lack : TellsLack (lack_of tip.reading) o = rw (g.0 row t h) at k in
-    rw same (found laws (said tip) row row o (pressure_tight laws tip) (e ∙ ap as_read (own_records tips line row t h g)) lack)
+    rw same (found laws (said tip) row row tip.reading o refl (pressure_tight laws tip) (e ∙ ap as_read (own_records tips line row t h g)) lack)

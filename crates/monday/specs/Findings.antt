@@ -22,7 +22,7 @@ Pressures t = BlendValues (Inside (pos 100) (read_as t.calibration)) (Inside (po
 
 -- what its records say of a tip
 abbrev pub said : Tip → Said Lack
-said t = record { pressure = pressure t; pressures = Pressures t; dip = t.dip; lack = lack_of t.reading }
+said t = record { reading = t.reading; pressure = pressure t; pressures = Pressures t; dip = t.dip; lack = lack_of t.reading }
 
 -- the first n findings are those of the first n tips, in their order
 abbrev pub AllFound : List Tip → ℕ → List (Finding Lack) → Type 0

@@ -50,7 +50,7 @@ pub fn findings(heap: Global, tips: &[Tip; TIPS]) -> Result<Vec<Finding<Lack>>, 
     let mut found = Vec::new(heap);
     for (row, tip) in tips.iter().enumerate() {
         let outcome = work_out(&mut rounding, &line, row);
-        found.push(Finding::new(row + 1, tip.dip, outcome))?;
+        found.push(Finding::new(row + 1, tip.reading, tip.dip, outcome))?;
     }
     Ok(found)
 }

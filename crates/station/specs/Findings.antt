@@ -3,7 +3,7 @@
 use Rattle.std.specs.Prelude.{ℕ, ◌/◌, ◌%◌, List, pos, None, slice_index_or}
 use Rattle.arithmetic.specs.Sets.{Set}
 use Rattle.arithmetic.specs.Values.{Value, Inside}
-use Rattle.cells.specs.Cells.{cell_at}
+use Rattle.cells.specs.Cells.{blank, cell_at}
 use Rattle.layouts.specs.Matrix.{Matrix}
 use Rattle.layouts.specs.Rows.{product_cell, ProductValues}
 use Rattle.layouts.specs.Stored.{band}
@@ -34,7 +34,7 @@ Pressures j place = PressuresOver 3 j place
 
 -- what the records of its box say of the tip at a place
 abbrev pub said : Junction → ℕ → Said Lack
-said j place = record { pressure = pressure j place; pressures = Pressures j place; dip = slice_index_or j.dips place None; lack = lack_of j.readings place }
+said j place = record { reading = slice_index_or j.readings place blank; pressure = pressure j place; pressures = Pressures j place; dip = slice_index_or j.dips place None; lack = lack_of j.readings place }
 
 -- the first n findings are those of the first n tips, in their order: a box has three, and a row is a place of a box
 abbrev pub AllFound : List Junction → ℕ → List (Finding Lack) → Type 0

@@ -11,6 +11,7 @@ use crate::lack::{Lack, why};
 use crate::line::{BOXES, Junction, STRIDE, TIPS_OF_A_BOX};
 use account::finding::Finding;
 use account::outcome::{NoPair, Outcome};
+use account::records::record_at;
 use account::units::{one, scale};
 use cells::cell::{Factors, Record, Target};
 use cells::fault::CellFault;
@@ -74,7 +75,8 @@ pub fn findings(heap: Global, line: &[Junction; BOXES]) -> Result<Vec<Finding<La
         for place in 0..TIPS_OF_A_BOX {
             let row = TIPS_OF_A_BOX * nth + place;
             let outcome = work_out(&mut rounding, junction, place);
-            found.push(Finding::new(row + 1, junction.dips[place], outcome))?;
+            let reading = record_at(&junction.readings, place);
+            found.push(Finding::new(row + 1, reading, junction.dips[place], outcome))?;
         }
     }
     Ok(found)

@@ -14,7 +14,7 @@ loop-place-preserved c =
     let h : nth < length line = omega (arith, c.loop-nth-test.true) in
     let past : Junction = record { readings = []; offsets = []; calibration = []; dips = [] } in
     let nine : length (get_or line nth past).calibration ≡ 9 = search rules in
-    let new = found_here (record { of_cells = c.laws_stand.ensures; of_layouts = c.laws_stand-2.ensures }) line nth place past c.work_out-outcome.result h c.loop-place-test.true nine c.work_out-outcome.ensures.value c.work_out-outcome.ensures.lack in
+    let new = found_here (record { of_cells = c.laws_stand.ensures; of_layouts = c.laws_stand-2.ensures }) line nth place past c.record_at-reading.result c.work_out-outcome.result c.record_at-reading.ensures h c.loop-place-test.true nine c.work_out-outcome.ensures.value c.work_out-outcome.ensures.lack in
     let pushed = c.in_ok-push.ensures in
     let P : ℕ → Type 0 = λ n. AllFound line n (vec_items c.push.new.self) in (
       omega (arith, pushed.len),
