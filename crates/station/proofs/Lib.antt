@@ -1,2 +1,3 @@
 pub mod Findings
 mod Soundness
+pub mod Three

@@ -1,8 +1,7 @@
 -- What a tip of a junction box lacks, by the readings of the box.
-use Rattle.std.specs.Prelude.{ℕ, Bool, true, false, List, codes, slice_index_or}
-use Rattle.std.specs.List.{list_all}
+use Rattle.std.specs.Prelude.{ℕ, Bool, true, false, ◌&&◌, List, codes, slice_index_or}
 use Rattle.cells.specs.declared.cell.Record.{Record}
-use Rattle.cells.specs.Cells.{blank, read_as}
+use Rattle.cells.specs.Cells.{blank, cell_at}
 use Rattle.layouts.specs.Filled.{is_filled}
 use Rattle.account.specs.declared.records.Given.{Given}
 use Rattle.account.specs.declared.records.Given.TheVariants as given
@@ -12,7 +11,7 @@ use Rattle.station.specs.declared.lack.Lack.TheVariants.{NothingGiven, Broken, N
 
 -- every reading of a box is good
 abbrev pub all_read : List Record → Bool
-all_read rs = list_all (λ r. is_filled (read_as r)) rs
+all_read rs = is_filled (cell_at rs 0) && (is_filled (cell_at rs 1) && is_filled (cell_at rs 2))
 
 -- by what the tip's own record gives, and by whether every reading of the box is good
 abbrev pub lack_when : Given → (all : Bool) → Lack

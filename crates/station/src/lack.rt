@@ -1,5 +1,6 @@
 // What a tip of a junction box lacks.
 ghost use Rattle.std.specs.Prelude.{◌≡◌, Some};
+ghost use Rattle.std.specs.List.{list_all};
 ghost use Rattle.cells.specs.Cells.{read_as};
 ghost use Rattle.layouts.specs.Filled.{is_filled};
 ghost use Rattle.station.specs.Lacks.{all_read, lack_of, own_lack, lack_words};
@@ -46,10 +47,17 @@ fn is_read(reading: Record) -> bool
     read(reading).is_some()
 }
 
+fn all_read_of(readings: &[Record]) -> bool
+    ensures { result ≡ list_all (λ r. is_filled (read_as r)) readings.now }
+{
+    readings.iter().all(|reading| is_read(*reading))
+}
+
+#[tactic(auto, using(crate::proofs::Three::all_of_three))]
 fn are_all_read(readings: &[Record; TIPS_OF_A_BOX]) -> bool
     ensures { result ≡ all_read readings.now }
 {
-    readings.iter().all(|reading| is_read(*reading))
+    all_read_of(readings)
 }
 
 // Why a tip without a pair has none. Behind a good reading another one of the box fails, since every reading of a box counts
