@@ -1,4 +1,5 @@
-// Records read as cells, cells written as records, and the checked makers of the numbers with ranges.
+// Records read as cells, cells written as records, and the checked makers of the numbers with ranges: one maker each, since no two
+// ranges have the same shape.
 ghost use Rattle.std.specs.Prelude.{◌≡◌, ◌<◌, ◌≤◌, MatchOption};
 ghost use Rattle.arithmetic.specs.Values.{bounds};
 ghost use Rattle.cells.specs.Cells.{cell_value, read_as, written, cell_at};

@@ -7,7 +7,8 @@ ghost use Rattle.cells.specs.Formulas.{sum_of_products, weighted_sum, blended_su
 use crate::cell::{Cell, Factors, Places, Product, Sum, Total, Totals};
 use crate::sums::{Weighted, added};
 
-// What a sum of products is taken over: two cells at each place. One loop then serves every formula.
+// What a sum of products is taken over: two cells at each place. One loop then serves every formula. It is a trait and no closure, since
+// its ghost members name the operands, and a contract can then be an equation.
 pub trait Operands {
     ghost lefts: { Self → ℕ → Value };
 

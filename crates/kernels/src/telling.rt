@@ -26,7 +26,7 @@ fn tell_all(totals: &[Total], sums: &mut [SumRecord])
     }
 }
 
-// Column by column, with the totals in the first of N places.
+// Column by column, with the totals in the first of N places: an array, since nothing below the accounts uses a heap.
 fn swept<const N: usize, L: Layout>(layout: &L, xs: &[Record], sums: &mut [SumRecord])
     requires room { length sums.old ≤ N }
     requires few { N ≤ 1024 }
