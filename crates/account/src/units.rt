@@ -3,7 +3,7 @@ ghost use Rattle.std.specs.Prelude.{◌≡◌, pos};
 ghost use Rattle.cells.specs.Cells.{cell_value};
 ghost use Rattle.account.specs.Outcomes.{unity};
 
-use cells::cell::{Cell, Interval, Scale};
+use cells::cell::{Cell, Scale};
 
 // The number of steps to one mA, to one kPa per mA and to one kPa.
 pub const UNIT: i32 = 100;
@@ -18,8 +18,5 @@ pub fn scale() -> Scale
 pub fn one() -> Cell
     ensures { cell_value result ≡ unity }
 {
-    Some(Interval {
-        lower: UNIT,
-        upper: UNIT,
-    })
+    scale().one()
 }

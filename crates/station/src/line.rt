@@ -15,7 +15,7 @@ pub const CALIBRATION_PLACES: usize = STRIDE * TIPS_OF_A_BOX;
 // Of each tip there is the reading, the current of its loop in mA, and the offset in kPa. Neighbouring channels of a box leak
 // a little into one another, so the calibration is a matrix in band storage, one place below the diagonal and one above: the
 // kPa at one tip for each mA that is read at another. A dip, where one was taken, is the pressure in kPa that the standpipe
-// beside the tip shows.
+// beside the tip shows; dips stand in a run too, so that one place finds all that is held of a tip.
 #[derive(Clone, Copy)]
 pub struct Junction {
     pub readings: [Record; TIPS_OF_A_BOX],
