@@ -1,19 +1,24 @@
-// The Monday account of the upstream line: for each tip the bounds of its pore pressure, and whether the month's dip
-// lies between them.
+// The Monday account of the upstream line, whose tips are read by junction boxes: for each tip the bounds of its pore
+// pressure, worked out from all readings of its box, and whether the month's dip lies between them.
 #![tactic(auto)]
 
 use account::printing::{Words, print};
+use station::line::TIPS_OF_A_BOX;
+use station::working::findings;
 use std::io;
 
-mod lack;
-mod line;
-mod working;
+mod upstream;
 
 fn main(rt: HostRuntime) -> io::Result<()> {
-    let findings = working::findings(rt.alloc(), &line::upstream())?;
+    let findings = findings(rt.alloc(), &upstream::line())?;
+    let notes = format!(in rt.alloc();
+        "Boxes: every {0} tips share one, calibrated by a band matrix, since neighbours leak a little into one another.\n\
+         Where one reading of a box is missing, none of its {0} tips gets a pair; the other boxes are not touched.\n",
+        TIPS_OF_A_BOX
+    )?;
     let words = Words {
-        notes: "",
-        lacking: "no reading",
+        notes: notes.as_str(),
+        lacking: "lack a record",
     };
     print(&rt, findings.as_slice(), words)
 }
