@@ -1,5 +1,5 @@
--- What is found of a tip: everything comes from what its own records say, and the pair is as narrow as its bounds in whole
--- steps can be.
+-- What is found of a tip: everything comes from what the records say of that tip, and the pair is as narrow as its bounds in
+-- whole steps can be.
 use Rattle.std.specs.Prelude.{◌≡◌, ℕ, ◌+◌, ◌<◌, List, ℤ, pos, Ok, Err, Option, Result, slice_index_or}
 use Rattle.arithmetic.specs.Sets.{Set}
 use Rattle.arithmetic.specs.Values.{Value, Tightly}
@@ -12,7 +12,7 @@ use Rattle.account.specs.Lacks.{TellsLack}
 use Rattle.account.specs.Outcomes.{told, as_read}
 use Rattle.account.specs.Standings.{standing_of}
 
--- what the records of a tip say: its reading, the cell of its pressure, the pressures that it can have, its dip, and what it
+-- what the records say of a tip: its reading, the cell of its pressure, the pressures that it can have, its dip, and what it
 -- lacks if it lacks something
 pub record Said (L : Type 0) : Type 1 where
   pub reading : Record

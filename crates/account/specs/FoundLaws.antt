@@ -1,5 +1,5 @@
 -- How findings come about: what is kept of a tight pressure is sound, and one more finding in the list.
--- Proofs, and here, because the crates above that cite them may not cite the proofs/ of a part below.
+-- Proofs, and here, because a crate above that cites them may not cite the proofs/ of a part below.
 use Rattle.std.proofs.Common.{◌≡◌, ℕ, ◌+◌, ◌<◌, true, List, get_or, pos, Ok, Err, Result, sym, refl, ap, ◌∙◌, subst, arith, below_more}
 use Rattle.arithmetic.specs.Values.{Value, empty, bounds, Ordered, Tightly}
 use Rattle.arithmetic.proofs.Values.{tightly_ordered}

@@ -25,7 +25,7 @@ impl<L> From<CellFault> for NoPair<L> {
     }
 }
 
-// What a tip can lack, in a program's own words.
+// What a tip can lack. How a line is read decides that, so each kind of line has a type of its own.
 pub trait Reason {
     ghost own: { Self → Bool };
 

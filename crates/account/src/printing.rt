@@ -8,7 +8,7 @@ use cells::cell::Interval;
 use rounding::rest::dividing::LIMIT;
 use std::{fmt, io};
 
-// What each program says in its own words: `notes` are the lines below the scale, each with its line end, and `lacking` are the
+// What a program says in its own words: `notes` are the lines below the scale, each with its line end, and `lacking` are the
 // words that follow the count of the tips that lack something.
 #[derive(Clone, Copy)]
 pub struct Words<'a> {

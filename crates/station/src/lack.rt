@@ -12,7 +12,7 @@ use cells::cell::Record;
 use cells::reading::read;
 use std::fmt;
 
-// An enum of its own beside that of tips that are read alone: here a neighbour can be missing.
+// Beside its own reading a tip can lack a neighbour's.
 #[derive(Clone, Copy, PartialEq, Eq)]
 pub enum Lack {
     NothingGiven,
