@@ -1,5 +1,5 @@
 -- What a sweep over the columns leaves: the sums as a list, and the sums that no column reaches. Assumes nothing.
-use Rattle.std.proofs.Common.{◌≡◌, ℕ, ◌+◌, ◌-◌, ◌<◌, ◌≤◌, List, ◌++◌, map, length, get_or, take, replicate, sym, ap, ◌∙◌, false, ⊎_elim, None, add-one, arith}
+use Rattle.std.proofs.Common.{◌≡◌, ℕ, true, ◌+◌, ◌-◌, ◌<◌, ◌≤◌, List, ◌++◌, map, length, get_or, take, replicate, sym, ap, ◌∙◌, ⊎_elim, None, add-one, arith}
 use Rattle.std.proofs.lemmas.Bool.{cases_lt, false≢true}
 use Rattle.std.specs.List.{range_with_len}
 use Rattle.std.proofs.lemmas.List.FromFn.{fill_by_all}
@@ -20,10 +20,13 @@ all_sums f sums n e h =
     (λ k l. get_or-map total_value sums k None empty (omega (arith, e, l)) ∙ h k l)
 
 -- filled cells stand in the run: past its end every cell is empty
+pub filled_here : (run : List Record) (k : ℕ) → is_filled (cell_at run k) ≡ true → k < length run
+filled_here run k f =
+    ⊎_elim (λ (b : k < length run). b) (λ (b : length run ≤ k). absurd (false≢true (sym (ap (λ (r : Record). is_filled (read_as r)) (get_or_past run k blank b)) ∙ f))) (cases_lt k (length run))
+
 pub filled_inside : (run : List Record) (n : ℕ) → Filled run 0 n → n ≤ length run
 filled_inside run n f =
-    let past : is_filled (cell_at run (length run)) ≡ false = ap (λ (r : Record). is_filled (read_as r)) (get_or_past run (length run) blank (omega arith)) in
-    ⊎_elim (λ (b : length run < n). absurd (false≢true (sym past ∙ f (length run) (omega arith) b))) (λ (b : n ≤ length run). b) (cases_lt (length run) n)
+    ⊎_elim (λ (b : length run < n). absurd (omega (arith, filled_here run (length run) (f (length run) (omega arith) b)))) (λ (b : n ≤ length run). b) (cases_lt (length run) n)
 
 -- what a list keeps whose end is written anew from r on, and what stands in that end once it is filled
 pub end_kept : (s end : List Total) (r k : ℕ) → r ≤ length s → k < r → get_or (take r s ++ end) k None ≡ get_or s k None

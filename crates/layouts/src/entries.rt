@@ -1,12 +1,12 @@
 // What the layouts share of entries: the cell [0, 0], which cells are filled, and which places are on a side.
-ghost use Rattle.std.specs.Prelude.{◌≡◌};
-ghost use Rattle.arithmetic.specs.Values.{zeros};
-ghost use Rattle.cells.specs.Cells.{cell_value};
+ghost use Rattle.std.specs.Prelude.{◌≡◌, true};
+ghost use Rattle.arithmetic.specs.Values.{bounds, zeros};
+ghost use Rattle.cells.specs.Cells.{cell_value, read_as};
 ghost use Rattle.layouts.specs.Filled.{is_filled};
 ghost use Rattle.layouts.specs.Sides.{on_side};
 
 use crate::side::Side;
-use cells::cell::{Cell, Interval};
+use cells::cell::{Cell, Interval, Record};
 
 pub(crate) fn zero() -> Cell
     ensures { cell_value result ≡ zeros }
@@ -19,6 +19,17 @@ pub(crate) fn is_filled(cell: Cell) -> bool
     ensures { result ≡ is_filled (cell_value cell) }
 {
     cell.is_some()
+}
+
+// What a record reads as that is known to be filled: it is not tested again.
+pub(crate) fn filled_bounds(record: Record) -> Interval
+    requires { is_filled (read_as «record») ≡ true }
+    ensures { bounds result.lower result.upper ≡ read_as «record» }
+{
+    Interval {
+        lower: record.lower,
+        upper: record.upper,
+    }
 }
 
 // Whether a place is on the side or on the diagonal.

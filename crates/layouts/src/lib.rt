@@ -5,6 +5,7 @@ pub mod band;
 pub mod dense;
 mod entries;
 pub mod figures;
+mod filled_part;
 pub mod laws;
 pub mod layout;
 pub mod lent;

@@ -4,7 +4,6 @@ ghost use Rattle.cells.specs.Cells.{cell_value, total_value, cell_at};
 ghost use Rattle.layouts.specs.Rows.{row_sum, product_at};
 
 use crate::layout::Layout;
-use crate::lines::whole;
 use crate::operands::RowTimes;
 use crate::vector::Vector;
 use cells::cell::{Factors, Record, Target, Total};
@@ -17,16 +16,8 @@ use rounding::rest::Rounding;
 pub fn row_sum<L: Layout>(layout: &L, row: usize, xs: Vector<'_>) -> Total
     ensures { total_value result ≡ row_sum (L.Layout.meaning layout.now) (cell_at xs.entry.run.now) row }
 {
-    let columns = layout.columns();
-    if xs.filled < columns {
-        return None;
-    }
-    let times = RowTimes {
-        layout,
-        row,
-        run: xs.run,
-    };
-    times.filled_sum(whole(columns))
+    let xs = xs.first(layout.columns())?;
+    RowTimes { layout, row, xs }.sum()
 }
 
 // beta·r + alpha·Σ L_ij·x_j over all columns of the layout, r being the cell at the row of a column.

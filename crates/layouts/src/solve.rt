@@ -1,9 +1,10 @@
 // The row formula of a triangular solve, the order in which rows are worked, and the test for a diagonal that holds 0.
-ghost use Rattle.std.specs.Prelude.{◌≡◌, ◌<◌};
+ghost use Rattle.std.specs.Prelude.{◌≡◌, ◌+◌, ◌<◌, ◌≤◌};
 ghost use Rattle.cells.specs.Cells.{cell_value, total_value, cell_at};
 ghost use Rattle.layouts.specs.Orders.{row_at, rows_in_order, first_zero};
-ghost use Rattle.layouts.specs.Rows.{solved_sum, solve_at};
+ghost use Rattle.layouts.specs.Rows.{solved_from, solved_count, solved_sum, solve_at};
 
+use crate::filled_part::FilledPart;
 use crate::layout::{Layout, Triangular};
 use crate::operands::RowTimes;
 use crate::side::Side;
@@ -34,24 +35,29 @@ pub fn first_zero<T: Triangular>(layout: &T) -> Option<usize>
         .find(|row| holds_zero(layout.entry(*row, *row)))
 }
 
-// Σ T_ij·z_j over the rows that are solved before the row, unrounded.
-fn solved_sum<T: Triangular>(layout: &T, row: usize, column: &[Record]) -> Total
+// The rows that are solved before a row.
+fn solved_before<T: Triangular>(layout: &T, row: usize) -> Places
     requires { row < (T.Layout.meaning layout.now).rows }
-    ensures { total_value result ≡ solved_sum (T.Triangular.half layout.now) (T.Layout.meaning layout.now) (cell_at column.now) row }
+    ensures from { result.from ≡ solved_from (T.Triangular.half layout.now) row }
+    ensures count { result.to ≡ result.from + solved_count (T.Triangular.half layout.now) (T.Layout.meaning layout.now).rows row }
+    ensures inside { result.to ≤ (T.Layout.meaning layout.now).columns }
 {
-    let solved = match layout.side() {
+    match layout.side() {
         Side::Lower => Places { from: 0, to: row },
         Side::Upper => Places {
             from: row + 1,
             to: layout.rows(),
         },
-    };
-    let times = RowTimes {
-        layout,
-        row,
-        run: column,
-    };
-    times.sum(solved)
+    }
+}
+
+// Σ T_ij·z_j over the rows that are solved before the row, unrounded.
+fn solved_sum<T: Triangular>(layout: &T, row: usize, column: &[Record]) -> Total
+    requires { row < (T.Layout.meaning layout.now).rows }
+    ensures { total_value result ≡ solved_sum (T.Triangular.half layout.now) (T.Layout.meaning layout.now) (cell_at column.now) row }
+{
+    let xs = FilledPart::of(column, solved_before(layout, row))?;
+    RowTimes { layout, row, xs }.sum()
 }
 
 // (alpha·x_i − Σ T_ij·z_j)/T_ii at a row of a column that holds z_j at the rows solved before, and x elsewhere. The cell is

@@ -12,6 +12,9 @@ use cells::reading::read;
 use cells::totals::add_product;
 
 // Adds a column of the layout times the bounds of a filled cell, reading only the places outside which the column is [0, 0].
+// Where it and its caller are no part of the loop's own function, LLVM cannot tell that a write to a sum leaves the layout as it
+// is, and has its figures read and tested again at each place; hence the two hints.
+#[inline(always)]
 fn add_column<L: Layout>(layout: &L, column: usize, factor: Interval, sums: &mut [Total])
     requires { (k : ℕ) → k < length sums.old → Small 17574738002943 (total_value (slice_index_or sums.old k None)) }
     ensures is { (k : ℕ) → k < length sums.old → k < (L.Layout.meaning layout.now).rows → total_value (slice_index_or sums.new k None) ≡ plus (total_value (slice_index_or sums.old k None)) (times ((L.Layout.meaning layout.now).entry k column) (bounds factor.lower factor.upper)) }
@@ -26,6 +29,7 @@ fn add_column<L: Layout>(layout: &L, column: usize, factor: Interval, sums: &mut
 }
 
 // Σ L_ij·x_j over all columns of the layout, unrounded, for each row that `sums` has a place for.
+#[inline(always)]
 pub fn product_sums<L: Layout>(layout: &L, xs: Vector<'_>, sums: &mut [Total])
     ensures { map total_value sums.new ≡ row_sums (L.Layout.meaning layout.now) (cell_at xs.entry.run.now) (length sums.old) }
 {

@@ -1,8 +1,11 @@
-use Rattle.std.proofs.Common.{sym, arith}
+use Rattle.std.proofs.Common.{◌≡◌, ℕ, ◌+◌, sym, subst, ap, ◌∙◌, arith}
+use Rattle.cells.specs.Cells.{total_value}
+use Rattle.layouts.specs.Filled.{Lacking}
 use Rattle.layouts.proofs.Skips.{lacked}
 use Rattle.layouts.proofs.product.row_sum.Goals as goal
 
-pub returns-then-xs-columns : goal.returns-then-xs-columns
-returns-then-xs-columns g c =
-    let m = g.L.Layout.meaning c.args.layout.now in let x = c.args.xs in
-    sym (lacked m x.run.now c.args.row 0 m.columns (record { place = x.filled; least = omega arith; most = omega (arith, c.columns-columns.ensures, c.if-xs-columns.true); lacks = x.next }))
+pub returns-in_err-xs : goal.returns-in_err-xs
+returns-in_err-xs g c =
+    let m = g.L.Layout.meaning c.args.layout.now in let run = c.args.xs.run.now in let P : ℕ → Type 0 = Lacking run 0 in
+    let all : c.columns.result ≡ 0 + m.columns = omega (arith, c.columns.ensures) in
+    ap total_value c.from_residual.ensures ∙ sym (lacked m run c.args.row 0 m.columns (subst P all c.in_err-xs.ensures))

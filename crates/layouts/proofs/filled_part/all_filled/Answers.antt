@@ -7,7 +7,7 @@ use Rattle.std.specs.List.{range_with_len, list_all}
 use borrow.Author.Tests.{tests}
 use Rattle.cells.specs.Cells.{cell_at}
 use Rattle.layouts.specs.Filled.{is_filled}
-use Rattle.layouts.proofs.operands.all_filled.Goals as goal
+use Rattle.layouts.proofs.filled_part.all_filled.Goals as goal
 
 -- what all of a range pass, each of its numbers does
 each : (p : ℕ → Bool) (from n k : ℕ) → list_all p (range_with_len from n) ≡ true → from ≤ k → k < from + n → p k ≡ true
