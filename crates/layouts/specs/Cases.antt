@@ -1,14 +1,15 @@
 -- Worked cases of the storage rules and of the row formulas, put before those of the cells.
-use Rattle.std.specs.Prelude.{ℕ, List, [], ◌∷◌, ℤ, pos, neg_ℤ, Some, Ok}
+use Rattle.std.specs.Prelude.{ℕ, List, [], ◌∷◌, ◌++◌, ℤ, pos, neg_ℤ, Some, Ok}
 use Rattle.arithmetic.specs.Values.{Value, empty, bounds, zeros}
 use Rattle.cells.specs.declared.cell.Record.{Record}
 use Rattle.cells.specs.Cases.{Cases, case, cases as cases-of-cells}
 use Rattle.cells.specs.Cells.{blank}
 use Rattle.layouts.specs.declared.side.Side.TheVariants.{Lower, Upper}
+use Rattle.layouts.specs.Layers.{transposed, symmetric, triangle, unit_diagonal}
 use Rattle.layouts.specs.Matrix.{Matrix}
 use Rattle.layouts.specs.Orders.{rows_in_order, first_zero}
 use Rattle.layouts.specs.Rows.{product_at, solve_at}
-use Rattle.layouts.specs.Stored.{band, packed}
+use Rattle.layouts.specs.Stored.{dense, band, packed}
 
 abbrev minus : ℕ → ℤ
 minus n = neg_ℤ (pos n)
@@ -21,8 +22,11 @@ abbrev is : ℕ → Value
 is n = bounds (pos n) (pos n)
 
 -- place k holds [k, k]
+abbrev five : List Record
+five = point 0 ∷ (point 1 ∷ (point 2 ∷ (point 3 ∷ (point 4 ∷ []))))
+
 abbrev six : List Record
-six = point 0 ∷ (point 1 ∷ (point 2 ∷ (point 3 ∷ (point 4 ∷ (point 5 ∷ [])))))
+six = five ++ (point 5 ∷ [])
 
 -- 3 by 3, one place below the diagonal, none above, stride 2
 abbrev narrow : Matrix
@@ -37,14 +41,34 @@ stored rest =
     (case ((packed six Lower 3).entry 2 1) (is 4)
     (case ((packed six Upper 3).entry 1 2) (is 4)
     (case ((packed six Upper 3).entry 2 1) zeros
-    -- a run that is one place short is unfit
-    (case (packed six Lower 4).rows 0 rest))))))
+    -- side 3 needs exactly six places: one less or one more is unfit
+    (case (packed six Lower 3).rows 3
+    (case (packed five Lower 3).rows 0
+    (case (packed (six ++ (point 6 ∷ [])) Lower 3).rows 0 rest))))))))
 
--- a product with the band, U = 1, row 2: an empty x_0 stands under a structural zero, and empties the cell all the same
+-- 2 by 3, stride 2
+abbrev wide : Matrix
+wide = dense six 2 3 2
+
+abbrev layered : Cases → Cases
+layered rest =
+    case (wide.entry 1 2) (is 5)
+    (case ((transposed wide).entry 2 1) (is 5)
+    -- square by the smaller side, (0, 1) read at (1, 0)
+    (case (symmetric Lower wide).columns 2
+    (case ((symmetric Lower wide).entry 0 1) (is 1)
+    (case ((triangle Upper wide).entry 1 0) zeros
+    (case ((unit_diagonal (pos 10) (packed six Lower 3)).entry 1 1) (is 10)
+    (case ((unit_diagonal (pos 10) (packed six Lower 3)).entry 2 1) (is 4) rest))))))
+
+-- products with the band, U = 1: at row 2 an empty x_0 stands under a structural zero, and empties the cell all the same
 abbrev products : Cases → Cases
 products rest =
     case (product_at (pos 1) narrow (is 1) (is 1) six 2 (point 7 ∷ (point 5 ∷ (point 6 ∷ [])))) (Ok (point 41))
-    (case (product_at (pos 1) narrow (is 1) (is 1) six 2 (blank ∷ (point 5 ∷ (point 6 ∷ [])))) (Ok blank) rest)
+    (case (product_at (pos 1) narrow (is 1) (is 1) six 2 (blank ∷ (point 5 ∷ (point 6 ∷ [])))) (Ok blank)
+    -- past the rows every entry is empty, and so is the cell; where there are no columns, beta·r is left
+    (case (product_at (pos 1) narrow (is 1) (is 1) six 3 (point 7 ∷ (point 5 ∷ (point 6 ∷ [])))) (Ok blank)
+    (case (product_at (pos 1) (packed five Lower 3) (is 1) (is 1) six 2 (point 7 ∷ [])) (Ok (point 2)) rest)))
 
 -- the lower triangle [20, 20]; [10, 10], d
 abbrev below : Record → Matrix
@@ -62,4 +86,4 @@ solves rest =
     (case (first_zero (below (record { lower = minus 1; upper = pos 2 })) (rows_in_order Lower 2)) (Some 1) rest))
 
 abbrev pub cases : Cases
-cases = stored (products (solves cases-of-cells))
+cases = stored (layered (products (solves cases-of-cells)))

@@ -1,5 +1,5 @@
 -- The layers: what each makes of the matrix below it.
-use Rattle.std.specs.Prelude.{◌≡◌, ℕ, ◌≤◌, min, max, Bool, true, cond, ◌&&◌, ℤ, pos, ◌==◌, int_le}
+use Rattle.std.specs.Prelude.{◌≡◌, ℕ, ◌≤◌, min, max, Bool, true, false, cond, ◌&&◌, ℤ, pos, ◌==◌, int_le}
 use Rattle.std.proofs.Common.{arith}
 use Rattle.std.proofs.lemmas.Int.{ints}
 use Rattle.std.proofs.lemmas.Bool.{cond_both, and_parts}
@@ -8,7 +8,7 @@ use Rattle.arithmetic.proofs.Tests.{le_z_true}
 use Rattle.cells.specs.Cells.{IsCell}
 use Rattle.layouts.specs.declared.side.Side.{Side}
 use Rattle.layouts.specs.declared.side.Side.TheVariants.{Lower, Upper}
-use Rattle.layouts.specs.Matrix.{Matrix, Sound, shaped, shaped_sound, fitted, fitted_sound}
+use Rattle.layouts.specs.Matrix.{Matrix, Sound, nothing, shaped, shaped_sound, fitted, fitted_nothing, fitted_sound}
 use Rattle.layouts.specs.Sides.{on_side}
 use Rattle.layouts.specs.Stored.{zero_cell}
 
@@ -81,3 +81,6 @@ pub unit_sound : (u : ℤ) (m : Matrix) → Sound m → Sound (unit_diagonal u m
 unit_sound u m s =
     fitted_sound (unit_fit u) m.rows m.columns (unit_entry u m.entry) (λ e. s.few_rows) (λ e. s.few_columns)
     (λ e i j. cond_both (i == j) (bounds u u) (m.entry i j) IsCell (λ t. unit_cell u e) (λ t. s.cell i j))
+
+pub unit_unfit : (u : ℤ) (m : Matrix) → unit_fit u ≡ false → unit_diagonal u m ≡ nothing
+unit_unfit u m e = fitted_nothing (unit_fit u) m.rows m.columns (unit_entry u m.entry) e

@@ -1,5 +1,5 @@
 -- What a layout means: a matrix of cells, rows and columns counted from 0, with at most 1,024 of each, empty outside.
-use Rattle.std.specs.Prelude.{◌≡◌, ℕ, ◌≤◌, Bool, true, cond, ◌&&◌, nat_lt, refl}
+use Rattle.std.specs.Prelude.{◌≡◌, ℕ, ◌≤◌, Bool, true, false, cond, ◌&&◌, nat_lt, refl}
 use Rattle.std.proofs.Common.{arith}
 use Rattle.std.proofs.lemmas.Bool.{cond_both, cond-false, and_left, and_right, le-ltb}
 use Rattle.arithmetic.specs.Values.{Value, empty}
@@ -42,6 +42,9 @@ nothing_sound = record { few_rows = omega arith; few_columns = omega arith; belo
 -- what a storage means: the entries f where its figures are fit
 abbrev pub fitted : (fit : Bool) (rows columns : ℕ) → (ℕ → ℕ → Value) → Matrix
 fitted fit rows columns f = cond fit (shaped rows columns f) nothing
+
+pub fitted_nothing : (fit : Bool) (rows columns : ℕ) (f : ℕ → ℕ → Value) → fit ≡ false → fitted fit rows columns f ≡ nothing
+fitted_nothing fit rows columns f e = cond-false fit (shaped rows columns f) nothing e
 
 pub fitted_sound : (fit : Bool) (rows columns : ℕ) (f : ℕ → ℕ → Value) → (fit ≡ true → rows ≤ 1024) → (fit ≡ true → columns ≤ 1024) → (fit ≡ true → (i j : ℕ) → IsCell (f i j)) → Sound (fitted fit rows columns f)
 fitted_sound fit rows columns f few narrow cells =

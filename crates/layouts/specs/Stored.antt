@@ -1,6 +1,6 @@
 -- The storage rules: at which place of a run of records each entry stands, and which figures are fit for the storage.
 -- Figures that are unfit mean the 0 by 0 matrix.
-use Rattle.std.specs.Prelude.{ℕ, ◌+◌, ◌-◌, ◌*◌, ◌/◌, Bool, cond, ◌&&◌, List, length, ◌==◌, nat_le, slice_index_or}
+use Rattle.std.specs.Prelude.{◌≡◌, ℕ, ◌+◌, ◌-◌, ◌*◌, ◌/◌, Bool, false, cond, ◌&&◌, List, length, ◌==◌, nat_le, slice_index_or}
 use Rattle.std.proofs.Common.{arith}
 use Rattle.std.proofs.lemmas.Int.{ints}
 use Rattle.std.proofs.lemmas.Bool.{cond_both, leb-true, and_parts}
@@ -10,7 +10,7 @@ use Rattle.cells.specs.Cells.{IsCell, blank, cell_at}
 use Rattle.cells.specs.Reading.{read_cell}
 use Rattle.layouts.specs.declared.side.Side.{Side}
 use Rattle.layouts.specs.declared.side.Side.TheVariants.{Lower, Upper}
-use Rattle.layouts.specs.Matrix.{Matrix, Sound, fitted, fitted_sound}
+use Rattle.layouts.specs.Matrix.{Matrix, Sound, nothing, fitted, fitted_nothing, fitted_sound}
 use Rattle.layouts.specs.Sides.{on_side}
 
 pub zero_cell : IsCell zeros
@@ -35,6 +35,9 @@ dense_sound run rows columns stride =
     fitted_sound (dense_fit run rows columns stride) rows columns (λ i j. cell_at run (dense_place stride i j))
     (λ e. leb-true rows 1024 (and_parts _ _ e).0) (λ e. leb-true columns 1024 (and_parts _ _ (and_parts _ _ e).1).0) (λ e i j. stored_cell run (dense_place stride i j))
 
+pub dense_unfit : (run : List Record) (rows columns stride : ℕ) → dense_fit run rows columns stride ≡ false → dense run rows columns stride ≡ nothing
+dense_unfit run rows columns stride e = fitted_nothing (dense_fit run rows columns stride) rows columns (λ i j. cell_at run (dense_place stride i j)) e
+
 -- ---- band: of each column the kl places below the diagonal, the diagonal and the ku places above it; [0, 0] elsewhere
 
 abbrev pub in_band : (kl ku i j : ℕ) → Bool
@@ -58,6 +61,9 @@ band_sound run rows columns kl ku stride =
     (λ e. leb-true rows 1024 (and_parts _ _ e).0) (λ e. leb-true columns 1024 (and_parts _ _ (and_parts _ _ e).1).0)
     (λ e i j. cond_both (in_band kl ku i j) (cell_at run (band_place ku stride i j)) zeros IsCell (λ t. stored_cell run (band_place ku stride i j)) (λ t. zero_cell))
 
+pub band_unfit : (run : List Record) (rows columns kl ku stride : ℕ) → band_fit run rows columns kl ku stride ≡ false → band run rows columns kl ku stride ≡ nothing
+band_unfit run rows columns kl ku stride e = fitted_nothing (band_fit run rows columns kl ku stride) rows columns (band_entry run kl ku stride) e
+
 -- ---- packed: the columns of one triangle of side n, one after the other; [0, 0] on the other side
 
 abbrev pub packed_place : Side → (n i j : ℕ) → ℕ
@@ -77,3 +83,6 @@ pub packed_sound : (run : List Record) (side : Side) (n : ℕ) → Sound (packed
 packed_sound run side n =
     fitted_sound (packed_fit run n) n n (packed_entry run side n) (λ e. leb-true n 1024 (and_parts _ _ e).0) (λ e. leb-true n 1024 (and_parts _ _ e).0)
     (λ e i j. cond_both (on_side side i j) (cell_at run (packed_place side n i j)) zeros IsCell (λ t. stored_cell run (packed_place side n i j)) (λ t. zero_cell))
+
+pub packed_unfit : (run : List Record) (side : Side) (n : ℕ) → packed_fit run n ≡ false → packed run side n ≡ nothing
+packed_unfit run side n e = fitted_nothing (packed_fit run n) n n (packed_entry run side n) e

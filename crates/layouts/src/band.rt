@@ -1,6 +1,6 @@
 // Band storage: of each column only the places near the diagonal.
 ghost use Rattle.std.specs.Prelude.{◌≡◌, ◌+◌, ◌^◌, ◌<◌, ◌≤◌};
-ghost use Rattle.layouts.specs.Stored.{band as stored, band_place, band_fit, band_sound};
+ghost use Rattle.layouts.specs.Stored.{band as stored, band_place, band_fit, band_unfit, band_sound};
 
 use crate::entries::zero;
 use crate::figures::{Figures, has_room};
@@ -34,6 +34,8 @@ fn place(above: usize, stride: usize, row: usize, column: usize) -> usize
 
 impl Figures for Band<'_> {
     ghost fit = { λ d. band_fit d.run.now d.rows d.columns d.below d.above d.stride };
+
+    ghost unfit = { λ d. band_unfit d.run.now d.rows d.columns d.below d.above d.stride };
 
     fn is_fit(&self) -> bool {
         self.rows <= 1024

@@ -1,6 +1,6 @@
 // Dense storage: all of a matrix, column after column.
 ghost use Rattle.std.specs.Prelude.{◌≡◌, ◌^◌, ◌<◌};
-ghost use Rattle.layouts.specs.Stored.{dense as stored, dense_place, dense_fit, dense_sound};
+ghost use Rattle.layouts.specs.Stored.{dense as stored, dense_place, dense_fit, dense_unfit, dense_sound};
 
 use crate::figures::{Figures, has_room};
 use crate::layout::Layout;
@@ -26,6 +26,8 @@ fn place(stride: usize, row: usize, column: usize) -> usize
 
 impl Figures for Dense<'_> {
     ghost fit = { λ d. dense_fit d.run.now d.rows d.columns d.stride };
+
+    ghost unfit = { λ d. dense_unfit d.run.now d.rows d.columns d.stride };
 
     fn is_fit(&self) -> bool {
         self.rows <= 1024

@@ -1,12 +1,14 @@
 // The figures of a storage, such as how many rows it has, are numbers as supplied: they may fit it or not.
-ghost use Rattle.std.specs.Prelude.{◌≡◌, Bool, ◌*◌, nat_le};
+ghost use Rattle.std.specs.Prelude.{◌≡◌, Bool, false, ◌*◌, nat_le};
+ghost use Rattle.layouts.specs.Matrix.{nothing};
 ghost use Rattle.layouts.specs.Refusals.{Checked};
 
+use crate::layout::Layout;
 use crate::refusal::LayoutRefusal;
 
 // A storage with figures. Unfit ones mean the 0 by 0 matrix, so every answer of a storage asks `is_fit` first; that stands in each answer, since
 // a helper would be no shorter than the question.
-pub trait Figures {
+pub trait Figures: Layout {
     ghost fit: { Self → Bool };
 
     fn is_fit(&self) -> bool
@@ -22,6 +24,9 @@ pub trait Figures {
             Err(LayoutRefusal::UnfitFigures)
         }
     }
+
+    // a law: unfit figures mean the 0 by 0 matrix
+    ghost unfit: { (l : Self) → fit l ≡ false → Self.Layout.meaning l ≡ nothing };
 }
 
 // Whether a run of `len` cells has room for `columns` columns of `stride` places, however large the figures are.

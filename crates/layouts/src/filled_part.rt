@@ -7,7 +7,7 @@ use crate::entries::{filled_bounds, is_filled};
 use cells::cell::{Cell, Places, Record};
 use cells::reading::cell_at;
 
-// Its records were tested once, so each is read without a test however often a sum asks for it.
+// Its records were tested once, so none is tested for being empty again, however often a sum asks for it.
 #[derive(Clone, Copy)]
 pub(crate) struct FilledPart<'a> {
     pub(crate) run: &'a [Record],

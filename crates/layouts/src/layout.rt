@@ -47,6 +47,7 @@ pub trait Layout {
 
 // A square matrix with [0, 0] at every place on the other side of the diagonal.
 pub trait Triangular: Layout {
+    // the side that the layout names
     ghost half: { Self → Side };
 
     fn side(&self) -> Side

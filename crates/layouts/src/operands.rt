@@ -32,7 +32,7 @@ impl<'a, 'b, L: Layout> Operands for RowTimes<'a, 'b, L> {
 }
 
 impl<'a, 'b, L: Layout> RowTimes<'a, 'b, L> {
-    // Σ over the columns of that part, unrounded: only the row's places outside which it is [0, 0] are read.
+    // Σ over the columns of that part, unrounded. Of the row only the span that `across` answers is read: elsewhere it is [0, 0].
     pub(crate) fn sum(&self) -> Total
         requires { self.now.xs.places.to ≤ (L.Layout.meaning self.now.layout.now).columns }
         ensures { total_value result ≡ sum_of_products ((L.Layout.meaning self.now.layout.now).entry self.now.row) (cell_at self.now.xs.run.now) self.now.xs.places.from (self.now.xs.places.to - self.now.xs.places.from) }

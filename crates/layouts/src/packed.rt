@@ -1,6 +1,6 @@
 // Packed storage: the columns of one triangle, one after the other with no gaps.
 ghost use Rattle.std.specs.Prelude.{◌≡◌, ◌<◌, ◌≤◌};
-ghost use Rattle.layouts.specs.Stored.{packed as stored, packed_fit, packed_place, packed_sound};
+ghost use Rattle.layouts.specs.Stored.{packed as stored, packed_fit, packed_place, packed_unfit, packed_sound};
 
 use crate::entries::{is_on, zero};
 use crate::figures::Figures;
@@ -33,6 +33,8 @@ fn place(side: Side, n: usize, row: usize, column: usize) -> usize
 
 impl Figures for Packed<'_> {
     ghost fit = { λ d. packed_fit d.run.now d.n };
+
+    ghost unfit = { λ d. packed_unfit d.run.now d.side d.n };
 
     fn is_fit(&self) -> bool {
         self.n <= 1024 && self.run.len() == self.n * (self.n + 1) / 2

@@ -11,9 +11,10 @@ use cells::cell::{Interval, Total, Totals};
 use cells::reading::read;
 use cells::totals::add_product;
 
-// Adds a column of the layout times the bounds of a filled cell, reading only the places outside which the column is [0, 0].
-// Where it and its caller are no part of the loop's own function, LLVM cannot tell that a write to a sum leaves the layout as it
-// is, and has its figures read and tested again at each place; hence the two hints.
+// Adds a column of the layout times the bounds of a filled cell. Of the column only the span that `down` answers is read: elsewhere
+// it is [0, 0]. A sum holds at most 1,023 products before, and one more after; the numbers are those of `add_product`.
+// Compiled as a function that is lent the layout, it has the figures of the layout read and tested again at each place, since
+// for LLVM a write to a sum may change them. Hence the hint here and at its caller.
 #[inline(always)]
 fn add_column<L: Layout>(layout: &L, column: usize, factor: Interval, sums: &mut [Total])
     requires { (k : ℕ) → k < length sums.old → Small 17574738002943 (total_value (slice_index_or sums.old k None)) }

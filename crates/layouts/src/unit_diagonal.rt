@@ -2,7 +2,7 @@
 ghost use Rattle.std.specs.Prelude.{◌≡◌, ◌+◌, ◌<◌, ◌≤◌, min, max, true, false};
 ghost use Rattle.arithmetic.specs.Values.{bounds};
 ghost use Rattle.cells.specs.Cells.{cell_value};
-ghost use Rattle.layouts.specs.Layers.{smaller as smaller-of, unit_fit, unit_diagonal, unit_sound};
+ghost use Rattle.layouts.specs.Layers.{smaller as smaller-of, unit_fit, unit_diagonal, unit_unfit, unit_sound};
 
 use crate::figures::Figures;
 use crate::layout::{Layout, Triangular};
@@ -26,8 +26,10 @@ fn one(unit: i64) -> Cell
 }
 
 // The unit is its one figure; what is below has a check of its own.
-impl<T> Figures for UnitDiagonal<T> {
+impl<T: Triangular> Figures for UnitDiagonal<T> {
     ghost fit = { λ t. unit_fit t.unit };
+
+    ghost unfit = { λ t. unit_unfit t.unit (T.Layout.meaning t.below) };
 
     fn is_fit(&self) -> bool {
         1 <= self.unit && self.unit <= 100_000
