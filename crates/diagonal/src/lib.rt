@@ -4,10 +4,11 @@
 
 ghost use Rattle.std.specs.Prelude.{◌≡◌, ◌+◌, ◌≤◌, ltb, if◌then◌else◌};
 ghost use Rattle.layouts.specs.declared.side.Side.TheVariants.{Lower};
-ghost use Rattle.diagonal.specs.Diagonal.{diagonal, diagonal_sound};
+ghost use Rattle.diagonal.specs.Diagonal.{diagonal, diagonal_fit, diagonal_unfit, diagonal_sound};
 
 use cells::cell::{Cell, Interval, Places, Record};
 use cells::reading::cell_at;
+use layouts::figures::Figures;
 use layouts::layout::{Layout, Triangular};
 use layouts::side::Side;
 
@@ -33,17 +34,23 @@ fn only(place: usize, n: usize) -> Places
     }
 }
 
+impl Figures for Diagonal<'_> {
+    ghost fit = { λ d. diagonal_fit d.run.now };
+
+    ghost unfit = { λ d. diagonal_unfit d.run.now };
+
+    fn is_fit(&self) -> bool {
+        self.run.len() <= 1024
+    }
+}
+
 impl Layout for Diagonal<'_> {
     ghost meaning = { λ d. diagonal d.run.now };
 
     ghost sound = { λ d. diagonal_sound d.run.now };
 
     fn rows(&self) -> usize {
-        if self.run.len() <= 1024 {
-            self.run.len()
-        } else {
-            0
-        }
+        if self.is_fit() { self.run.len() } else { 0 }
     }
 
     fn columns(&self) -> usize {
