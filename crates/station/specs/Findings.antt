@@ -22,8 +22,8 @@ calibration j = band j.calibration 3 3 1 1 3
 abbrev pub pressure : Junction → ℕ → Value
 pressure j place = product_cell (pos 100) (calibration j) unity unity (cell_at j.offsets place) (cell_at j.readings) place
 
--- the pressures that the tip at a place can have: offset, calibration and readings are any fractions inside their pairs
--- over n readings
+-- the pressures that the tip at a place can have: offset, calibration and readings are any fractions inside their pairs. How many
+-- readings there are is a name of its own here, for the proof that the calibration has three columns.
 abbrev pub PressuresOver : ℕ → Junction → ℕ → Set
 PressuresOver n j place =
     ProductValues (Inside (pos 100) unity) (Inside (pos 100) unity) (Inside (pos 100) (cell_at j.offsets place)) (λ i k. Inside (pos 100) ((calibration j).entry i k))

@@ -1,10 +1,9 @@
 // Working out the line: what became of each tip, and where its dip stands.
-ghost use Rattle.std.specs.Prelude.{◌≡◌, pos, IfOk, vec_len};
-ghost use Rattle.layouts.specs.Rows.{product_at};
-ghost use Rattle.layouts.specs.Stored.{band};
+ghost use Rattle.std.specs.Prelude.{◌≡◌, IfOk, vec_len};
+ghost use Rattle.cells.specs.Faults.{kept, in_row};
 ghost use Rattle.account.specs.Lacks.{TellsLack};
-ghost use Rattle.account.specs.Outcomes.{told, as_read, unity};
-ghost use Rattle.station.specs.Findings.{AllFound};
+ghost use Rattle.account.specs.Outcomes.{told, as_read};
+ghost use Rattle.station.specs.Findings.{pressure, AllFound};
 ghost use Rattle.station.specs.Lacks.{lack_of};
 
 use crate::lack::{Lack, why};
@@ -29,7 +28,7 @@ fn pressure_at(
     junction: &Junction,
     place: usize,
 ) -> Result<Record, CellFault>
-    ensures { result ≡ product_at (pos 100) (band junction.now.calibration 3 3 1 1 3) unity unity junction.now.offsets place junction.now.readings }
+    ensures { result ≡ in_row place (kept (pressure junction.now place)) }
 {
     let factors = Factors {
         scale: scale(),
@@ -54,7 +53,7 @@ fn pressure_at(
 
 // What became of the tip at a place of a box.
 pub fn work_out(rounding: &mut Rounding, junction: &Junction, place: usize) -> Outcome<Lack>
-    ensures value { told place result ≡ as_read (product_at (pos 100) (band junction.now.calibration 3 3 1 1 3) unity unity junction.now.offsets place junction.now.readings) }
+    ensures value { told place result ≡ as_read (in_row place (kept (pressure junction.now place))) }
     ensures lack { TellsLack (lack_of junction.now.readings place) result }
 {
     let record = pressure_at(rounding, junction, place)?;
