@@ -6,7 +6,7 @@ ghost use Rattle.layouts.specs.declared.side.Side.TheVariants.{Lower};
 ghost use Rattle.layouts.specs.Layers.{symmetric, transposed};
 ghost use Rattle.layouts.specs.Rows.{row_sums};
 ghost use Rattle.layouts.specs.Stored.{dense, band, packed};
-ghost use Rattle.kernels.specs.Sums.{sum_told};
+ghost use Rattle.kernels.specs.Sums.{sum_record};
 
 use crate::square;
 use crate::sum::SumRecord;
@@ -20,7 +20,7 @@ pub extern "C" fn bepyndo_dense_by_rows(
     xs: &[Record],
     sums: &mut [SumRecord],
 )
-    ensures { map sum_told sums.new ≡ row_sums (dense run.now n n n) (cell_at xs.now) (length sums.old) }
+    ensures { sums.new ≡ map sum_record (row_sums (dense run.now n n n) (cell_at xs.now) (length sums.old)) }
 {
     by_rows(&square::dense(run, n), xs, sums);
 }
@@ -34,7 +34,7 @@ pub extern "C" fn bepyndo_band_by_rows(
     xs: &[Record],
     sums: &mut [SumRecord],
 )
-    ensures { map sum_told sums.new ≡ row_sums (band run.now n n k k stride) (cell_at xs.now) (length sums.old) }
+    ensures { sums.new ≡ map sum_record (row_sums (band run.now n n k k stride) (cell_at xs.now) (length sums.old)) }
 {
     by_rows(&square::band(run, n, k, k, stride), xs, sums);
 }
@@ -46,7 +46,7 @@ pub extern "C" fn bepyndo_packed_by_rows(
     xs: &[Record],
     sums: &mut [SumRecord],
 )
-    ensures { map sum_told sums.new ≡ row_sums (packed run.now Lower n) (cell_at xs.now) (length sums.old) }
+    ensures { sums.new ≡ map sum_record (row_sums (packed run.now Lower n) (cell_at xs.now) (length sums.old)) }
 {
     by_rows(&square::packed(run, n), xs, sums);
 }
@@ -58,7 +58,7 @@ pub extern "C" fn bepyndo_symmetric_by_rows(
     xs: &[Record],
     sums: &mut [SumRecord],
 )
-    ensures { map sum_told sums.new ≡ row_sums (symmetric Lower (packed run.now Lower n)) (cell_at xs.now) (length sums.old) }
+    ensures { sums.new ≡ map sum_record (row_sums (symmetric Lower (packed run.now Lower n)) (cell_at xs.now) (length sums.old)) }
 {
     by_rows(&square::symmetric(run, n), xs, sums);
 }
@@ -70,7 +70,7 @@ pub extern "C" fn bepyndo_transposed_by_rows(
     xs: &[Record],
     sums: &mut [SumRecord],
 )
-    ensures { map sum_told sums.new ≡ row_sums (transposed (dense run.now n n n)) (cell_at xs.now) (length sums.old) }
+    ensures { sums.new ≡ map sum_record (row_sums (transposed (dense run.now n n n)) (cell_at xs.now) (length sums.old)) }
 {
     by_rows(&square::transposed(run, n), xs, sums);
 }

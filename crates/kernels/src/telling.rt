@@ -2,7 +2,7 @@
 ghost use Rattle.std.specs.Prelude.{◌≡◌, ◌≤◌, map, length, is_ok};
 ghost use Rattle.cells.specs.Cells.{total_value, cell_at};
 ghost use Rattle.layouts.specs.Rows.{row_sums};
-ghost use Rattle.kernels.specs.Sums.{sum_told, ToldIfFew};
+ghost use Rattle.kernels.specs.Sums.{sum_record, ToldIfFew};
 
 use crate::sum::SumRecord;
 use cells::cell::{Record, Total};
@@ -15,10 +15,9 @@ use layouts::vector::Vector;
 #[derive(Clone, Copy)]
 pub(crate) struct TooManySums;
 
-#[tactic(auto, using(crate::proofs::Told::told_back))]
 fn tell_all(totals: &[Total], sums: &mut [SumRecord])
     requires { length sums.old ≡ length totals.now }
-    ensures { map sum_told sums.new ≡ map total_value totals.now }
+    ensures { sums.new ≡ map sum_record (map total_value totals.now) }
 {
     // by the row: `zip` was tried, and of the sums that are written through it a proof knows nothing
     for (row, sum) in sums.iter_mut().enumerate() {
@@ -30,7 +29,7 @@ fn tell_all(totals: &[Total], sums: &mut [SumRecord])
 fn swept<const N: usize, L: Layout>(layout: &L, xs: &[Record], sums: &mut [SumRecord])
     requires room { length sums.old ≤ N }
     requires few { N ≤ 1024 }
-    ensures { map sum_told sums.new ≡ row_sums (L.Layout.meaning layout.now) (cell_at xs.now) (length sums.old) }
+    ensures { sums.new ≡ map sum_record (row_sums (L.Layout.meaning layout.now) (cell_at xs.now) (length sums.old)) }
 {
     let mut places = [None; N];
     let totals = &mut places[..sums.len()];
@@ -58,7 +57,7 @@ pub(crate) fn by_columns<L: Layout>(
 
 // The sums of all rows, worked row by row.
 pub(crate) fn by_rows<L: Layout>(layout: &L, xs: &[Record], sums: &mut [SumRecord])
-    ensures { map sum_told sums.new ≡ row_sums (L.Layout.meaning layout.now) (cell_at xs.now) (length sums.old) }
+    ensures { sums.new ≡ map sum_record (row_sums (L.Layout.meaning layout.now) (cell_at xs.now) (length sums.old)) }
 {
     let vector = Vector::of(xs);
     for (row, sum) in sums.iter_mut().enumerate() {
