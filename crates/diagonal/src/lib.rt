@@ -1,5 +1,5 @@
 // A layout of one's own, as an example: a diagonal matrix, of which only the diagonal is stored.
-// docs/ADDING-A-LAYOUT.md goes through it line by line.
+// docs/ADDING-A-LAYOUT.md goes through it.
 #![tactic(auto)]
 
 ghost use Rattle.std.specs.Prelude.{◌≡◌, ◌+◌, ◌≤◌, ltb, if◌then◌else◌};

@@ -1,4 +1,4 @@
--- The refusal of a layout's check: its number and the values that it carries.
+-- The refusal of a layout's check: its number, and the column and the row that it names.
 use Rattle.std.specs.Prelude.{◌≡◌, ℕ, Bool, true, false, Ok, Err, Result}
 use Rattle.layouts.specs.declared.refusal.LayoutRefusal.{LayoutRefusal}
 use Rattle.layouts.specs.declared.refusal.LayoutRefusal.TheVariants.{UnfitFigures}
