@@ -1,8 +1,9 @@
-// Whole matrices, read from each storage scheme that BLAS has and under each layer. The stored output is what the reference
-// BLAS reads from the same runs, written by `tools/storages-by-blas`.
+// Whole matrices, read from each storage scheme that BLAS has and under each layer, and below each matrix the spans that its
+// layout answers. The stored output is what the reference BLAS reads from the same runs, with the narrowest spans of that, written
+// by `tools/storages-by-blas`. A span that is wider than it need be still meets its contract, so no proof shows it.
 #![tactic(auto)]
 
-use cells::cell::{Cell, Record};
+use cells::cell::{Cell, Places, Record};
 use layouts::band::Band;
 use layouts::dense::Dense;
 use layouts::layout::{Layout, Triangular};
@@ -22,7 +23,7 @@ const PLACES: usize = 30;
 const SIDES: [Side; 2] = [Side::Lower, Side::Upper];
 
 // Place k holds k + 2 units, and so does a place that no entry uses: an entry shows where it was read. No place holds one
-// unit, so a one comes from a unit diagonal.
+// unit, so a one comes from a unit diagonal. No place holds zero, so an entry is zero only where nothing is stored for it.
 fn numbered() -> [Record; PLACES] {
     array::from_fn(|k| {
         let steps = UNIT * (k as i32 + 2);
@@ -155,6 +156,43 @@ impl<'a, L: Layout> fmt::Display for Row<'a, L> {
     }
 }
 
+// A span as it is printed: its first place and its last, a dash where it has none.
+#[derive(Clone, Copy)]
+struct Span(Places);
+
+impl fmt::Display for Span {
+    fn fmt<W: fmt::Write>(&self, f: &mut fmt::Formatter<W>) -> fmt::Result {
+        let Places { from, to } = self.0;
+        if from == to {
+            write!(f, "-")
+        } else {
+            write!(f, "{from}-{}", to - 1)
+        }
+    }
+}
+
+// The spans of all rows of a matrix as they are printed.
+#[derive(Clone, Copy)]
+struct Across<'a, L>(&'a L);
+
+impl<'a, L: Layout> fmt::Display for Across<'a, L> {
+    fn fmt<W: fmt::Write>(&self, f: &mut fmt::Formatter<W>) -> fmt::Result {
+        let rows = 0..self.0.rows();
+        f.write_joined(rows.map(|row| Span(self.0.across(row))), " ")
+    }
+}
+
+// The spans of all columns of a matrix as they are printed.
+#[derive(Clone, Copy)]
+struct Down<'a, L>(&'a L);
+
+impl<'a, L: Layout> fmt::Display for Down<'a, L> {
+    fn fmt<W: fmt::Write>(&self, f: &mut fmt::Formatter<W>) -> fmt::Result {
+        let columns = 0..self.0.columns();
+        f.write_joined(columns.map(|column| Span(self.0.down(column))), " ")
+    }
+}
+
 fn print_matrix<L: Layout>(
     rt: &HostRuntime,
     heading: impl fmt::Display + Drop,
@@ -165,6 +203,8 @@ fn print_matrix<L: Layout>(
     for row in 0..matrix.rows() {
         println!(rt; "{}", Row { matrix, row })?;
     }
+    println!(rt; "across {}", Across(matrix))?;
+    println!(rt; "down {}", Down(matrix))?;
     println!(rt)
 }
 
