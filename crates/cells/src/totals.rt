@@ -1,10 +1,10 @@
 // Sums of products over any operands, and the sums that the formulas divide.
 ghost use Rattle.std.specs.Prelude.{◌≡◌, ℕ, ◌+◌, ◌-◌};
-ghost use Rattle.arithmetic.specs.Values.{Value, bounds, times, plus, Small};
+ghost use Rattle.arithmetic.specs.Values.{Value, times, plus, Small};
 ghost use Rattle.cells.specs.Cells.{cell_value, total_value, sum_value};
 ghost use Rattle.cells.specs.Formulas.{sum_of_products, weighted_sum, blended_sum, remainder_sum};
 
-use crate::cell::{Cell, Factors, Interval, Places, Product, Sum, Total, Totals};
+use crate::cell::{Cell, Factors, Places, Product, Sum, Total, Totals};
 use crate::sums::{Weighted, added};
 
 // What a sum of products is taken over: two cells at each place. One loop then serves every formula. It is a trait and no closure, since
@@ -35,19 +35,12 @@ pub fn sum_of_products<O: Operands>(operands: &O, places: Places) -> Total
 }
 
 // One product more, for sums that are worked on side by side. The sum holds at most 1,023 products before.
-pub fn add_product(sofar: &mut Total, x: Cell, y: Interval)
-    requires { Small 17574738002943 (total_value sofar.old) }
-    ensures is { total_value sofar.new ≡ plus (total_value sofar.old) (times (cell_value x) (bounds y.lower y.upper)) }
-    ensures size { (n : ℕ) → Small n (total_value sofar.old) → Small (n + 17179607041) (total_value sofar.new) }
+pub fn add_product(sofar: Total, x: Cell, y: Cell) -> Total
+    requires { Small 17574738002943 (total_value sofar) }
+    ensures is { total_value result ≡ plus (total_value sofar) (times (cell_value x) (cell_value y)) }
+    ensures size { (n : ℕ) → Small n (total_value sofar) → Small (n + 17179607041) (total_value result) }
 {
-    match x {
-        None => *sofar = None,
-        Some(x) => {
-            if let Some(total) = sofar {
-                *total = total.with(Product::of(x, y));
-            }
-        }
-    }
+    Some(sofar?.with(Product::of(x?, y?)))
 }
 
 // beta·r + alpha·Σ, at the scale of a product of three cells.

@@ -25,7 +25,7 @@ fn add_column<L: Layout>(layout: &L, column: usize, factor: Interval, sums: &mut
     // the rows are counted: a chain over `iter_mut` with `take` and `skip` was tried, and a proof knows nothing of the sums that it
     // leaves; a loop over a part of the sums would count from 0 and be no plainer
     for row in places.from..places.to.min(sums.len()) {
-        add_product(&mut sums[row], layout.entry(row, column), factor);
+        sums[row] = add_product(sums[row], layout.entry(row, column), Some(factor));
     }
 }
 

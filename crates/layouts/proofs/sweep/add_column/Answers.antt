@@ -1,11 +1,15 @@
-use Rattle.std.proofs.Common.{◌≡◌, ◌≢◌, ℕ, ◌+◌, ◌<◌, ◌≤◌, length, None, get_or, set, sym, refl, ap, ◌∙◌, subst, ⊎_elim, below_more, arith}
-use Rattle.std.proofs.lemmas.List.{get_or_default, get_or-set_same, get_or-set_other}
+use Rattle.std.proofs.Common.{◌≡◌, ◌≢◌, ℕ, ◌+◌, ◌<◌, ◌≤◌, List, length, None, get_or, set, sym, refl, ap, ◌∙◌, subst, ⊎_elim, below_more, arith}
+use Rattle.std.proofs.lemmas.List.{get_or_read, get_or-set_same, get_or-set_other}
 use Rattle.std.proofs.lemmas.Bool.{cases_lt}
 use Rattle.arithmetic.specs.Values.{Value, bounds, plus, times, Small}
 use Rattle.arithmetic.proofs.Sizes.{small_more}
 use Rattle.cells.specs.Cells.{Total, cell_value, total_value}
 use Rattle.layouts.proofs.Skips.{still}
 use Rattle.layouts.proofs.sweep.add_column.Goals as goal
+
+-- what stood at the row before the call
+old : (sums was : List Total) (row : ℕ) (x : Total) → row < length sums → x ≡ get_or sums row x → ((k : ℕ) → row ≤ k → get_or sums k None ≡ get_or was k None) → x ≡ get_or was row None
+old sums was row x lt e same = get_or_read sums row x lt e None ∙ same row (omega arith)
 
 pub loop-row-init : goal.loop-row-init
 loop-row-init g c =
@@ -17,10 +21,10 @@ loop-row-init g c =
 
 pub loop-row-preserved : goal.loop-row-preserved
 loop-row-preserved g c =
-    let m = g.L.Layout.meaning c.args.layout.now in let l = c.loop-row in let was = c.args.sums.now in let x = get_or l.sums l.row c.index-sums-row.result in
-    let j = c.args.column in let v = bounds c.args.factor.lower c.args.factor.upper in let new = c.add_product.new.sofar in
+    let m = g.L.Layout.meaning c.args.layout.now in let l = c.loop-row in let was = c.args.sums.now in let x = c.index-sums-row.result in
+    let j = c.args.column in let v = bounds c.args.factor.lower c.args.factor.upper in let new = c.add_product.result in
     let here : l.row < length l.sums = omega (arith, c.loop-row-test.true, c.min-row-end.ensures, l.auto.sums) in
-    let before : x ≡ get_or was l.row None = get_or_default l.sums l.row c.index-sums-row.result None here ∙ l.invariant.2 l.row (omega arith) in
+    let before : x ≡ get_or was l.row None = old l.sums was l.row x here c.index-sums-row.is l.invariant.2 in
     let Sized : Total → Total → Type 0 = λ w t. (n : ℕ) → Small n (total_value w) → Small (n + 17179607041) (total_value t) in
     let kept : (k : ℕ) → k ≢ l.row → get_or (set l.sums l.row new) k None ≡ get_or l.sums k None = λ k n. get_or-set_other l.sums l.row k new None n in
     let put : get_or (set l.sums l.row new) l.row None ≡ new = get_or-set_same l.sums l.row new None here in
