@@ -1,0 +1,5 @@
+// The sheet: columns of cells in supplied memory, the calls that work on them through a draft, and what every list of calls keeps.
+#![tactic(auto)]
+
+pub mod refusal;
+pub mod shape;

@@ -1,0 +1,103 @@
+// Why a call is refused, and the fault of a call that worked out a bound beyond the limit.
+ghost use Rattle.std.specs.Prelude.{◌≡◌};
+ghost use Rattle.sheet.specs.declared.refusal.Refusal.TheVariants.{BeyondLimit};
+
+use cells::fault::CellFault;
+
+// What a sheet is asked to do.
+#[derive(Clone, Copy, PartialEq, Eq)]
+pub enum CallName {
+    Open,
+    Set,
+    Begin,
+    Dot,
+    Sum,
+    Blend,
+    Product,
+    Solve,
+    Join,
+    Copy,
+    Permute,
+    Post,
+    Withdraw,
+    OneNorm,
+    InfinityNorm,
+    Largest,
+    Smallest,
+    Width,
+    Middle,
+    Enclosed,
+    // the permutation of a run that is no column
+    PermuteRun,
+}
+
+// The sheet's fault: the cell's fault, carried whole, with the call and the column.
+#[derive(Clone, Copy)]
+pub struct SheetFault {
+    pub call: CallName,
+    pub column: usize,
+    pub cell: CellFault,
+}
+
+// A refusal by its number: each case says what is wrong, and where.
+#[derive(Clone, Copy)]
+pub enum Refusal {
+    // 1: the scale is below 1 or above 100,000
+    ScaleOutside,
+    // 2: rows outside 1 to 1,024, columns outside 1 to 64, or more than 4,096 cells
+    ShapeOutside,
+    // 3: the supplied cells, or the supplied draft, are not as many as the shape says
+    WrongLength {
+        call: CallName,
+        column: usize,
+    },
+    // 4
+    NoSuchColumn {
+        call: CallName,
+        column: usize,
+    },
+    // 5
+    NoSuchRow {
+        call: CallName,
+        column: usize,
+        row: usize,
+    },
+    // 6: the two numbers that were to be set are no cell
+    NoCell {
+        column: usize,
+    },
+    // 7: the layout has more rows or more columns than a column has cells
+    LayoutTooLarge {
+        call: CallName,
+        column: usize,
+    },
+    // 8: a diagonal entry that is not empty holds 0
+    DivisorHoldsZero {
+        column: usize,
+        row: usize,
+    },
+    // 9: the list is not the numbers from 0 to n - 1, each once
+    NoPermutation {
+        call: CallName,
+        column: usize,
+    },
+    // 10: a bound that was worked out is beyond the limit
+    BeyondLimit(SheetFault),
+}
+
+// `?` alone cannot add the call and the column, so `map_err` puts them beside the fault first.
+impl From<(CallName, usize, CellFault)> for SheetFault {
+    ghost from_gives = { λ a r. r ≡ record { call = a.0; column = a.1; cell = a.2 } };
+
+    fn from((call, column, cell): (CallName, usize, CellFault)) -> SheetFault {
+        SheetFault { call, column, cell }
+    }
+}
+
+impl From<SheetFault> for Refusal {
+    ghost from_gives = { λ a r. r ≡ BeyondLimit a };
+
+    fn from(fault: SheetFault) -> Refusal {
+        Refusal::BeyondLimit(fault)
+    }
+}
