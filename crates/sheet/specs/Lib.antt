@@ -1,1 +1,12 @@
+pub mod Answers
+pub mod Calls
+pub mod Checks
+pub mod ExactRuns
+pub mod Formulas
+pub mod Memory
+pub mod NewColumns
+pub mod Permutations
+pub mod Promises
 pub mod Refusals
+pub mod Runs
+pub mod Shapes
