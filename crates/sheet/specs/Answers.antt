@@ -46,13 +46,13 @@ drafted_for (drafted k) = k
 
 abbrev pub open_answer : Shape → (cells draft : List Record) → Answer
 open_answer s cells draft = first_refusal
-    ( check (legal_scale s.scale) ScaleOutside
+    (check (legal_scale s.scale) ScaleOutside
     ∷ (check (legal_size s.rows s.columns) ShapeOutside
     ∷ (check (has_both s cells draft) (WrongLength Open 0) ∷ []))) granted
 
 abbrev pub set_answer : Shape → (k i : ℕ) (lower upper : ℤ) (cells : List Record) → Answer
 set_answer s k i lower upper cells = first_refusal
-    ( check (has_cells s cells) (WrongLength Set k)
+    (check (has_cells s cells) (WrongLength Set k)
     ∷ (column_named s Set k
     ∷ (row_named s Set k i
     ∷ (check (not (broken lower upper)) (NoCell k) ∷ [])))) granted

@@ -5,6 +5,7 @@ pub mod ExactRuns
 pub mod Formulas
 pub mod Memory
 pub mod NewColumns
+pub mod Outcomes
 pub mod Permutations
 pub mod Promises
 pub mod Refusals

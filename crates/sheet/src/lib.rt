@@ -1,5 +1,7 @@
 // The sheet: columns of cells in supplied memory, the calls that work on them through a draft, and what every list of calls keeps.
 #![tactic(auto)]
 
+mod memory;
 pub mod refusal;
 pub mod shape;
+pub mod states;
