@@ -3,5 +3,6 @@
 
 mod memory;
 pub mod refusal;
+mod rows;
 pub mod shape;
 pub mod states;

@@ -1,1 +1,4 @@
-// calling
+// The calls of a working sheet.
+ghost use Rattle.std.specs.Prelude.{◌≡◌};
+
+use crate::refusal::{CallName, Refusal};
