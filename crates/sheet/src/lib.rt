@@ -1,7 +1,9 @@
 // The sheet: columns of cells in supplied memory, the calls that work on them through a draft, and what every list of calls keeps.
 #![tactic(auto)]
 
+mod column;
 mod memory;
+pub mod permutation;
 pub mod refusal;
 mod rows;
 pub mod shape;
