@@ -1,3 +1,4 @@
 pub mod Gathering
 pub mod Orders
 pub mod Owes
+pub mod Sized
