@@ -3,6 +3,7 @@ pub mod Calls
 pub mod Checks
 pub mod ColumnQuestions
 pub mod ExactRuns
+pub mod Faults
 pub mod Formulas
 pub mod Memory
 pub mod NewColumns

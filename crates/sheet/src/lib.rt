@@ -3,6 +3,7 @@
 
 mod column;
 mod memory;
+mod new_columns;
 pub mod permutation;
 pub mod refusal;
 mod rows;

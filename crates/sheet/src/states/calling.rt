@@ -1,4 +1,296 @@
 // The calls of a working sheet.
-ghost use Rattle.std.specs.Prelude.{◌≡◌};
+ghost use Rattle.std.specs.Prelude.{◌≡◌, [], ◌∷◌, ◌<◌, ◌≤◌, true, false, IfOk, MatchResult, nat_lt};
+ghost use Rattle.sheet.specs.Answers.{working, drafted, calling, call_answer, draft_after};
+ghost use Rattle.cells.specs.Worked.{sum_at};
+ghost use Rattle.sheet.specs.Calls.{sum, join, copy, permute};
+ghost use Rattle.sheet.specs.Checks.{granted, refused, check, first_refusal, column_named, limits};
+ghost use Rattle.sheet.specs.Memory.{has_cells, has_both, column, columns, written_rows};
+ghost use Rattle.sheet.specs.NewColumns.{new_column};
+ghost use Rattle.sheet.specs.Outcomes.{answer_of, fault_answer, called, outcome};
+ghost use Rattle.sheet.specs.Faults.{in_call};
+ghost use Rattle.sheet.specs.declared.refusal.CallName.TheVariants.{Sum};
+ghost use Rattle.sheet.specs.declared.refusal.Refusal.TheVariants.{WrongLength, NoSuchColumn, NoSuchRow};
 
-use crate::refusal::{CallName, Refusal};
+use crate::memory::clear;
+use crate::new_columns::{Copied, Joined, Permuted};
+use crate::permutation::is_permutation;
+use crate::refusal::{CallName, Refusal, SheetFault};
+use crate::rows::write_rows;
+use crate::states::{Drafted, Refused, Working};
+use cells::cell::{Record, Terms};
+use cells::formulas::sum;
+use cells::rules::JoinRule;
+
+impl Working {
+    fn check_lengths(
+        &self,
+        call: CallName,
+        column: usize,
+        cells: &[Record],
+        draft: &[Record],
+    ) -> Result<(), Refusal>
+        ensures { MatchResult result (λ u. has_both self.now.shape cells.now draft.now ≡ true) (λ r. (has_both self.now.shape cells.now draft.now ≡ false) × (r ≡ WrongLength call column)) }
+    {
+        if self.shape.has_both(cells, draft) {
+            Ok(())
+        } else {
+            Err(Refusal::WrongLength { call, column })
+        }
+    }
+
+    fn check_column(&self, call: CallName, column: usize) -> Result<(), Refusal>
+        ensures { MatchResult result (λ u. column < self.now.shape.columns) (λ r. (self.now.shape.columns ≤ column) × (r ≡ NoSuchColumn call column)) }
+    {
+        if column < self.shape.columns {
+            Ok(())
+        } else {
+            Err(Refusal::NoSuchColumn { call, column })
+        }
+    }
+
+    // The lengths, the target and one other column.
+    fn check_columns(
+        &self,
+        call: CallName,
+        k: usize,
+        x: usize,
+        cells: &[Record],
+        draft: &[Record],
+    ) -> Result<(), Refusal>
+        ensures answer { answer_of result ≡ first_refusal (check (has_both self.now.shape cells.now draft.now) (WrongLength call k) ∷ (column_named self.now.shape call k ∷ (column_named self.now.shape call x ∷ []))) granted }
+        ensures passed { IfOk result (λ u. (has_both self.now.shape cells.now draft.now ≡ true) × (k < self.now.shape.columns) × (x < self.now.shape.columns)) }
+    {
+        self.check_lengths(call, k, cells, draft)?;
+        self.check_column(call, k)?;
+        self.check_column(call, x)
+    }
+
+    fn check_row(&self, call: CallName, column: usize, row: usize) -> Result<(), Refusal>
+        ensures { MatchResult result (λ u. row < self.now.shape.rows) (λ r. (self.now.shape.rows ≤ row) × (r ≡ NoSuchRow call column row)) }
+    {
+        if row < self.shape.rows {
+            Ok(())
+        } else {
+            Err(Refusal::NoSuchRow { call, column, row })
+        }
+    }
+
+    // What became of a call on column k: the draft stands for it, or the sheet is handed back.
+    fn drafted(self, k: usize, came: Result<(), Refusal>) -> Result<Drafted, Refused>
+        requires { IfOk came (λ u. k < self.shape.columns) }
+        ensures { MatchResult came (λ u. called result ≡ record { answer = granted; stage = drafted k; shape = self.shape }) (λ r. called result ≡ record { answer = refused r; stage = working; shape = self.shape }) }
+    {
+        match came {
+            Ok(()) => Ok(Drafted {
+                shape: self.shape,
+                column: k,
+                spent: false,
+            }),
+            Err(refusal) => Err(Refused {
+                refusal,
+                sheet: self,
+            }),
+        }
+    }
+
+    // Σ x_j over all rows, as the record of cell i.
+    fn summed(&self, k: usize, i: usize, x: usize, cells: &[Record]) -> Result<Record, SheetFault>
+        requires whole { has_cells self.now.shape cells.now ≡ true }
+        requires named { x < self.now.shape.columns }
+        ensures { result ≡ in_call Sum k (sum_at i (column self.now.shape cells.now x) self.now.shape.rows) }
+    {
+        let terms = Terms {
+            count: self.shape.rows,
+        };
+        let column = self.shape.column(cells, x);
+        Ok(sum(column, terms, i).map_err(|fault| (CallName::Sum, k, fault))?)
+    }
+
+    // The column as it reads, and the sum in cell i. A sum beyond the limit leaves the draft empty.
+    fn write_sum(
+        &self,
+        k: usize,
+        i: usize,
+        x: usize,
+        cells: &[Record],
+        draft: &mut [Record],
+    ) -> Result<(), SheetFault>
+        requires lengths { has_both self.now.shape cells.now draft.old ≡ true }
+        requires named { (k < self.now.shape.columns) × (x < self.now.shape.columns) × (i < self.now.shape.rows) }
+        ensures answer { fault_answer result ≡ first_refusal (limits Sum k (new_column self.now.shape (sum k i x) (columns self.now.shape cells.now)) (i ∷ [])) granted }
+        ensures draft { draft.new ≡ draft_after self.now.shape (calling (sum k i x)) cells.now draft.old (fault_answer result) }
+    {
+        let summed = self.summed(k, i, x, cells);
+        if summed.is_err() {
+            clear(draft);
+        }
+        let record = summed?;
+        let column = self.shape.column(cells, k);
+        write_rows(&Copied { column }, draft);
+        draft[i] = record;
+        Ok(())
+    }
+
+    #[tactic(auto, using(crate::proofs::Exits::answer_opened))]
+    fn sum_rows(
+        &self,
+        k: usize,
+        i: usize,
+        x: usize,
+        cells: &[Record],
+        draft: &mut [Record],
+    ) -> Result<(), Refusal>
+        ensures answer { answer_of result ≡ call_answer self.now.shape (sum k i x) cells.now draft.old }
+        ensures draft { draft.new ≡ draft_after self.now.shape (calling (sum k i x)) cells.now draft.old (call_answer self.now.shape (sum k i x) cells.now draft.old) }
+        ensures inside { IfOk result (λ u. k < self.now.shape.columns) }
+    {
+        let call = CallName::Sum;
+        self.check_columns(call, k, x, cells, draft)?;
+        self.check_row(call, k, i)?;
+        Ok(self.write_sum(k, i, x, cells, draft)?)
+    }
+
+    fn write_joined<R: JoinRule>(
+        &self,
+        k: usize,
+        x: usize,
+        rule: &R,
+        cells: &[Record],
+        draft: &mut [Record],
+    )
+        requires lengths { has_both self.now.shape cells.now draft.old ≡ true }
+        requires named { (k < self.now.shape.columns) × (x < self.now.shape.columns) }
+        ensures { draft.new ≡ written_rows self.now.shape.rows (new_column self.now.shape (join k x (R.JoinRule.rule rule.now)) (columns self.now.shape cells.now)) }
+    {
+        let joined = Joined {
+            rule,
+            column: self.shape.column(cells, k),
+            other: self.shape.column(cells, x),
+        };
+        write_rows(&joined, draft);
+    }
+
+    #[tactic(auto, using(crate::proofs::Exits::answer_opened))]
+    fn join_rows<R: JoinRule>(
+        &self,
+        k: usize,
+        x: usize,
+        rule: &R,
+        cells: &[Record],
+        draft: &mut [Record],
+    ) -> Result<(), Refusal>
+        ensures answer { answer_of result ≡ call_answer self.now.shape (join k x (R.JoinRule.rule rule.now)) cells.now draft.old }
+        ensures draft { draft.new ≡ draft_after self.now.shape (calling (join k x (R.JoinRule.rule rule.now))) cells.now draft.old (call_answer self.now.shape (join k x (R.JoinRule.rule rule.now)) cells.now draft.old) }
+        ensures inside { IfOk result (λ u. k < self.now.shape.columns) }
+    {
+        self.check_columns(CallName::Join, k, x, cells, draft)?;
+        self.write_joined(k, x, rule, cells, draft);
+        Ok(())
+    }
+
+    #[tactic(auto, using(crate::proofs::Exits::answer_opened))]
+    fn copy_rows(
+        &self,
+        k: usize,
+        x: usize,
+        cells: &[Record],
+        draft: &mut [Record],
+    ) -> Result<(), Refusal>
+        ensures answer { answer_of result ≡ call_answer self.now.shape (copy k x) cells.now draft.old }
+        ensures draft { draft.new ≡ draft_after self.now.shape (calling (copy k x)) cells.now draft.old (call_answer self.now.shape (copy k x) cells.now draft.old) }
+        ensures inside { IfOk result (λ u. k < self.now.shape.columns) }
+    {
+        self.check_columns(CallName::Copy, k, x, cells, draft)?;
+        let column = self.shape.column(cells, x);
+        write_rows(&Copied { column }, draft);
+        Ok(())
+    }
+
+    #[tactic(auto, using(crate::proofs::Exits::answer_opened))]
+    fn permute_rows(
+        &self,
+        k: usize,
+        order: &[usize],
+        cells: &[Record],
+        draft: &mut [Record],
+    ) -> Result<(), Refusal>
+        ensures answer { answer_of result ≡ call_answer self.now.shape (permute k order.now) cells.now draft.old }
+        ensures draft { draft.new ≡ draft_after self.now.shape (calling (permute k order.now)) cells.now draft.old (call_answer self.now.shape (permute k order.now) cells.now draft.old) }
+        ensures inside { IfOk result (λ u. k < self.now.shape.columns) }
+    {
+        let call = CallName::Permute;
+        self.check_lengths(call, k, cells, draft)?;
+        self.check_column(call, k)?;
+        if !is_permutation(self.shape.rows, order) {
+            return Err(Refusal::NoPermutation { call, column: k });
+        }
+        let permuted = Permuted {
+            column: self.shape.column(cells, k),
+            order,
+        };
+        write_rows(&permuted, draft);
+        Ok(())
+    }
+
+    // Cell i of column k becomes the sum of column x over all rows; the others stay.
+    pub fn sum(
+        self,
+        k: usize,
+        i: usize,
+        x: usize,
+        cells: &[Record],
+        draft: &mut [Record],
+    ) -> Result<Drafted, Refused>
+        ensures answer { called result ≡ outcome self.shape working (calling (sum k i x)) cells.now draft.old }
+        ensures draft { draft.new ≡ draft_after self.shape (calling (sum k i x)) cells.now draft.old (call_answer self.shape (sum k i x) cells.now draft.old) }
+    {
+        let came = self.sum_rows(k, i, x, cells, draft);
+        self.drafted(k, came)
+    }
+
+    // Each cell of column k becomes the join of itself with the one of column x.
+    pub fn join<R: JoinRule>(
+        self,
+        k: usize,
+        x: usize,
+        rule: &R,
+        cells: &[Record],
+        draft: &mut [Record],
+    ) -> Result<Drafted, Refused>
+        ensures answer { called result ≡ outcome self.shape working (calling (join k x (R.JoinRule.rule rule.now))) cells.now draft.old }
+        ensures draft { draft.new ≡ draft_after self.shape (calling (join k x (R.JoinRule.rule rule.now))) cells.now draft.old (call_answer self.shape (join k x (R.JoinRule.rule rule.now)) cells.now draft.old) }
+    {
+        let came = self.join_rows(k, x, rule, cells, draft);
+        self.drafted(k, came)
+    }
+
+    // Cell i of column k becomes its old cell order[i].
+    pub fn permute(
+        self,
+        k: usize,
+        order: &[usize],
+        cells: &[Record],
+        draft: &mut [Record],
+    ) -> Result<Drafted, Refused>
+        ensures answer { called result ≡ outcome self.shape working (calling (permute k order.now)) cells.now draft.old }
+        ensures draft { draft.new ≡ draft_after self.shape (calling (permute k order.now)) cells.now draft.old (call_answer self.shape (permute k order.now) cells.now draft.old) }
+    {
+        let came = self.permute_rows(k, order, cells, draft);
+        self.drafted(k, came)
+    }
+
+    // Each cell of column k becomes the one of column x.
+    pub fn copy(
+        self,
+        k: usize,
+        x: usize,
+        cells: &[Record],
+        draft: &mut [Record],
+    ) -> Result<Drafted, Refused>
+        ensures answer { called result ≡ outcome self.shape working (calling (copy k x)) cells.now draft.old }
+        ensures draft { draft.new ≡ draft_after self.shape (calling (copy k x)) cells.now draft.old (call_answer self.shape (copy k x) cells.now draft.old) }
+    {
+        let came = self.copy_rows(k, x, cells, draft);
+        self.drafted(k, came)
+    }
+}
