@@ -1,5 +1,5 @@
 pub mod Gathering
-pub mod Orders
+pub mod Arrangements
 pub mod Owes
 pub mod Sized
 pub mod Exits

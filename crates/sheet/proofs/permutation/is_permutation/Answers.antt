@@ -4,7 +4,7 @@ use Rattle.std.proofs.lemmas.Bool.{eq-eqb}
 use Rattle.std.proofs.lemmas.Iterator.{YieldsList-from_range}
 use Rattle.std.proofs.lemmas.Iterator.Search.{all_from_yields_List}
 use Rattle.sheet.specs.Permutations.{is_permutation}
-use Rattle.sheet.proofs.Orders.{each_once, permutation}
+use Rattle.sheet.proofs.Arrangements.{each_once, permutation}
 use Rattle.sheet.proofs.permutation.is_permutation.Goals as goal
 
 answer : (c : goal.After-all) → c.all.result ≡ is_permutation c.args.n c.args.order.now
