@@ -1,5 +1,5 @@
 -- What every run of a sheet keeps, whatever it is told: the promises.
-use Rattle.std.specs.Prelude.{◌≡◌, ℕ, ◌<◌, true, List, [], ◌∷◌, ℤ}
+use Rattle.std.specs.Prelude.{◌≡◌, ℕ, ◌<◌, true, cond, List, [], ◌∷◌, ℤ, ◌==◌}
 use Rattle.arithmetic.specs.Sets.{Set}
 use Rattle.arithmetic.specs.Tight.{Near}
 use Rattle.arithmetic.specs.Values.{Value, empty, bounds, Within, Tightly}
@@ -14,9 +14,9 @@ use Rattle.sheet.specs.declared.shape.Shape.{Shape}
 use Rattle.sheet.specs.Answers.{Stage, filling, working, drafted, Ask, setting, beginning, calling, posting, withdrawing, Takes, sets, begins, calls, posts, withdraws, answer, stage_after, cells_after, draft_after}
 use Rattle.sheet.specs.Calls.{Meaning, Call, dot, sum, blend, product, solve, join, copy, permute}
 use Rattle.sheet.specs.Checks.{Answer, granted, refused}
-use Rattle.sheet.specs.ExactRuns.{Choice, Follows, ExactRun}
+use Rattle.sheet.specs.ExactRuns.{last_set, Choice, Follows, ExactRun}
 use Rattle.sheet.specs.Formulas.{Reached, Gives}
-use Rattle.sheet.specs.Memory.{columns}
+use Rattle.sheet.specs.Memory.{has_both, columns, with_column}
 use Rattle.sheet.specs.Runs.{Event, told, Ran, opened, went_on, lost_draft, turned_away}
 
 -- ---- contains: the exact values lie inside the cells
@@ -35,6 +35,22 @@ DraftHolds s (drafted k) draft ys = (row : ℕ) → row < s.rows → Holds s.sca
 abbrev pub Contains : Type 0
 Contains = (s : Shape) (h : List Event) (stage : Stage) (cells draft : List Record) (xs : ℕ → ℕ → Held) (ys : ℕ → Held)
     → Ran s h stage cells draft → ExactRun s h stage xs ys → ColumnsHold s cells xs × DraftHolds s stage draft ys
+
+-- ---- keeps: a run stays within its memory, and what is set and what is posted is what stands
+
+-- the memory that a run leaves is of its shape's size, so that no ask over it is refused for its length
+abbrev pub Fits : Type 0
+Fits = (s : Shape) (h : List Event) (stage : Stage) (cells draft : List Record) → Ran s h stage cells draft → has_both s cells draft ≡ true
+
+-- while a sheet is filled, each cell is as the last granted set made it
+abbrev pub Filled : Type 0
+Filled = (s : Shape) (h : List Event) (cells draft : List Record) → Ran s h filling cells draft
+    → (k row : ℕ) → k < s.columns → row < s.rows → columns s cells k row ≡ last_set h k row
+
+-- after a post the column is the draft, and the other columns are as they were
+abbrev pub Posted : Type 0
+Posted = (s : Shape) (h : List Event) (k : ℕ) (cells draft : List Record) → Ran s h (drafted k) cells draft
+    → (j row : ℕ) → j < s.columns → row < s.rows → columns s (with_column s k cells draft) j row ≡ cond (j == k) (cell_at draft row) (columns s cells j row)
 
 -- ---- close and tight: the cells are no wider than whole steps make them
 
@@ -200,6 +216,9 @@ EveryChoice = (s : Shape) (h : List Event) (call : Call) (cells before : List Re
 
 pub record Promises : Type 0 where
   pub goes_on : GoesOn
+  pub fits : Fits
+  pub filled : Filled
+  pub posted : Posted
   pub contains : Contains
   pub close : Close
   pub tight : TightDrafts
