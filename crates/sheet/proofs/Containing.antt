@@ -18,7 +18,7 @@ use Rattle.sheet.specs.Promises.{ColumnsHold, DraftHolds}
 use Rattle.sheet.specs.Runs.{Event, told, Ran, opened, went_on, lost_draft, turned_away}
 use Rattle.sheet.proofs.Answering.{SetGranted, set_granted, OfCall, of_call, only_calls}
 use Rattle.sheet.proofs.Keeping.{sized}
-use Rattle.sheet.proofs.Memory.{read_back, opened_empty, set_same, set_other, posted_same, posted_other}
+use Rattle.sheet.proofs.Columns.{read_back, opened_empty, set_same, set_other, posted_same, posted_other}
 use Rattle.sheet.proofs.Owes.{Owes}
 
 chosen_holds : (u : ℤ) (c : Value) (p : Held) → Chosen u c p → Holds u c p

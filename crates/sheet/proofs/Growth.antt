@@ -1,7 +1,6 @@
 -- What a formula gives grows with its operands.
-use Rattle.std.proofs.Common.{◌≡◌, ℕ, zero, suc, ◌<◌, Bool, true, false, ◌&&◌, List, [], ◌∷◌, length, get_or, ltb, eqb, refl, arith}
-use Rattle.std.specs.List.{list_all}
-use Rattle.std.proofs.lemmas.Bool.{and_parts, ltb-true, eqb-true}
+use Rattle.std.proofs.Common.{◌≡◌, ℕ, ◌<◌, Bool, true, false, List, get_or, ltb, eqb, refl, arith}
+use Rattle.std.proofs.lemmas.Bool.{ltb-true}
 use Rattle.arithmetic.specs.Sets.{Set, Included}
 use Rattle.arithmetic.proofs.Sets.{products_grow, sums_grow, negatives_grow, quotients_grow, totals_grow}
 use Rattle.layouts.specs.Rows.{solved_from, solved_count}
@@ -9,21 +8,14 @@ use Rattle.sheet.specs.declared.shape.Shape.{Shape}
 use Rattle.sheet.specs.Calls.{Call, dot, sum, blend, product, solve, join, copy, permute}
 use Rattle.sheet.specs.Checks.{checks}
 use Rattle.sheet.specs.Formulas.{Operands, Of, Where, Formula}
-use Rattle.sheet.specs.Permutations.{is_permutation, all_different}
+use Rattle.sheet.specs.Permutations.{is_permutation}
+use Rattle.sheet.proofs.Arrangements.{each_once}
 use Rattle.sheet.proofs.Checks.{Passed}
 use Rattle.sheet.proofs.Orders.{Earlier, few_columns}
 
 -- ---- a permutation names rows of the column
-below : (n : ℕ) (order : List ℕ) (i : ℕ) → list_all (λ p. ltb p n) order ≡ true → i < length order → get_or order i 0 < n
-below n [] i e h = absurd (omega arith)
-below n (p ∷ order) zero e h = ltb-true p n (and_parts (ltb p n) (list_all (λ p. ltb p n) order) e).0
-below n (p ∷ order) (suc i) e h = below n order i (and_parts (ltb p n) (list_all (λ p. ltb p n) order) e).1 (omega arith)
-
 pub names_rows : (n : ℕ) (order : List ℕ) → is_permutation n order ≡ true → (i : ℕ) → i < n → get_or order i 0 < n
-names_rows n order e i h =
-    let p = and_parts (eqb (length order) n) (list_all (λ p. ltb p n) order && all_different order) e in
-    let q = and_parts (list_all (λ p. ltb p n) order) (all_different order) p.1 in
-    below n order i q.0 (omega (arith, h, eqb-true (length order) n p.0))
+names_rows n order e i h = (each_once n order e).below i h
 
 -- ---- growth
 pub where_grows : (t : Bool) (S S' T T' : Set) → (t ≡ true → Included S S') → (t ≡ false → Included T T') → Included (Where t S T) (Where t S' T')

@@ -11,7 +11,7 @@ use Rattle.sheet.specs.NewColumns.{new_column}
 use Rattle.sheet.specs.Runs.{Event, Ran, opened, went_on, lost_draft, turned_away}
 use Rattle.sheet.specs.Shapes.{Legal}
 use Rattle.sheet.proofs.Answering.{opens_legal}
-use Rattle.sheet.proofs.Memory.{written_size, blanks_size, set_size, posted_size}
+use Rattle.sheet.proofs.Columns.{written_size, blanks_size, set_size, posted_size}
 use Rattle.sheet.proofs.Owes.{Owes}
 
 pub legal : {s : Shape} {h : List Event} {stage : Stage} {cells draft : List Record} → Ran s h stage cells draft → Legal s

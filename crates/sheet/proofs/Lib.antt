@@ -1,6 +1,7 @@
 pub mod Answering
 pub mod Arrangements
 pub mod Checks
+pub mod Columns
 pub mod Containing
 pub mod ExactDrafts
 pub mod Exits
@@ -12,7 +13,6 @@ pub mod Growth
 pub mod Holding
 pub mod Inside
 pub mod Keeping
-pub mod Memory
 pub mod Nearing
 pub mod Nesting
 pub mod Orders

@@ -15,7 +15,7 @@ use Rattle.sheet.specs.Memory.{columns, written_rows}
 use Rattle.sheet.specs.NewColumns.{new_column}
 use Rattle.sheet.specs.Promises.{NearBounds}
 use Rattle.sheet.specs.Runs.{Event, told, Ran, went_on}
-use Rattle.sheet.proofs.Memory.{read_back}
+use Rattle.sheet.proofs.Columns.{read_back}
 use Rattle.sheet.proofs.Owes.{Owes}
 
 tightly_near : {u : ℤ} {S : Set} {c : Value} → Tightly u S c → NearBounds u S c

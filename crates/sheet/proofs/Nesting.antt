@@ -19,7 +19,7 @@ use Rattle.sheet.specs.Promises.{CallInside, call_inside, post_inside, withdraw_
 use Rattle.sheet.specs.Runs.{Event, told, Ran, went_on, lost_draft, turned_away}
 use Rattle.sheet.proofs.Answering.{never_both, sized_both, close_granted}
 use Rattle.sheet.proofs.Keeping.{Sized, sized}
-use Rattle.sheet.proofs.Memory.{read_back, posted_same, posted_other}
+use Rattle.sheet.proofs.Columns.{read_back, posted_same, posted_other}
 use Rattle.sheet.proofs.Owes.{Owes}
 
 module _ (laws : Laws) (s : Shape) (owes : Owes s) where

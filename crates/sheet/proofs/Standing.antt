@@ -10,7 +10,7 @@ use Rattle.sheet.specs.Memory.{columns, with_column, has_both}
 use Rattle.sheet.specs.Runs.{Event, Ran}
 use Rattle.sheet.proofs.Answering.{sized_both}
 use Rattle.sheet.proofs.Keeping.{Sized, sized}
-use Rattle.sheet.proofs.Memory.{posted_same, posted_other}
+use Rattle.sheet.proofs.Columns.{posted_same, posted_other}
 use Rattle.sheet.proofs.Owes.{Owes}
 
 module _ (s : Shape) (owes : Owes s) where

@@ -60,6 +60,10 @@ set_answer s k i lower upper cells = first_refusal
 abbrev pub begin_answer : Shape → (cells : List Record) → Answer
 begin_answer s cells = first_refusal (check (has_cells s cells) (WrongLength Begin 0) ∷ []) granted
 
+-- before any cell is worked out
+abbrev pub check_answer : Shape → Call → (cells draft : List Record) → Answer
+check_answer s call cells draft = first_refusal (check (has_both s cells draft) (WrongLength (name call) (target call)) ∷ checks s call) granted
+
 -- the new cells are looked at last
 unfoldable pub call_answer : Shape → Call → (cells draft : List Record) → Answer
 call_answer s call cells draft =

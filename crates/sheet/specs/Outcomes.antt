@@ -3,8 +3,6 @@
 use Rattle.std.specs.Prelude.{cond, List, Ok, Err, Result}
 use Rattle.cells.specs.declared.cell.Record.{Record}
 use Rattle.sheet.specs.declared.refusal.Refusal.{Refusal}
-use Rattle.sheet.specs.declared.refusal.Refusal.TheVariants.{BeyondLimit}
-use Rattle.sheet.specs.declared.refusal.SheetFault.{SheetFault}
 use Rattle.sheet.specs.declared.shape.Shape.{Shape}
 use Rattle.sheet.specs.declared.states.Drafted.{Drafted}
 use Rattle.sheet.specs.declared.states.Filling.{Filling}
@@ -33,10 +31,6 @@ stage_of d = cond d.spent working (drafted d.column)
 abbrev pub answer_of : Result (Unit {0}) Refusal → Answer
 answer_of (Ok u) = granted
 answer_of (Err r) = refused r
-
-abbrev pub fault_answer : Result (Unit {0}) SheetFault → Answer
-fault_answer (Ok u) = granted
-fault_answer (Err fault) = refused (BeyondLimit fault)
 
 -- an open that is refused hands no sheet on
 abbrev pub opened : Result Filling Refusal → Result Shape Refusal

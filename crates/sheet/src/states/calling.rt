@@ -1,12 +1,12 @@
 // The calls of a working sheet.
-ghost use Rattle.std.specs.Prelude.{◌≡◌, [], ◌∷◌, ◌<◌, ◌≤◌, true, false, IfOk, MatchResult, nat_lt};
-ghost use Rattle.sheet.specs.Answers.{working, drafted, calling, call_answer, draft_after};
+ghost use Rattle.std.specs.Prelude.{◌≡◌, [], ◌∷◌, ◌<◌, ◌≤◌, true, false, IfOk, IfErr, MatchResult, slice_set, nat_lt};
+ghost use Rattle.sheet.specs.Answers.{working, drafted, calling, check_answer, call_answer, draft_after, empties_draft};
 ghost use Rattle.cells.specs.Worked.{sum_at};
 ghost use Rattle.sheet.specs.Calls.{sum, join, copy, permute};
-ghost use Rattle.sheet.specs.Checks.{granted, refused, check, first_refusal, column_named, limits};
+ghost use Rattle.sheet.specs.Checks.{granted, refused, check, first_refusal, column_named};
 ghost use Rattle.sheet.specs.Memory.{has_cells, has_both, column, columns, written_rows};
 ghost use Rattle.sheet.specs.NewColumns.{new_column};
-ghost use Rattle.sheet.specs.Outcomes.{answer_of, fault_answer, called, outcome};
+ghost use Rattle.sheet.specs.Outcomes.{answer_of, called, outcome};
 ghost use Rattle.sheet.specs.Faults.{in_call};
 ghost use Rattle.sheet.specs.declared.refusal.CallName.TheVariants.{Sum};
 ghost use Rattle.sheet.specs.declared.refusal.Refusal.TheVariants.{WrongLength, NoSuchColumn, NoSuchRow};
@@ -93,6 +93,25 @@ impl Working {
         }
     }
 
+    fn check_sum(
+        &self,
+        k: usize,
+        i: usize,
+        x: usize,
+        cells: &[Record],
+        draft: &[Record],
+    ) -> Result<(), Refusal>
+        ensures answer { answer_of result ≡ check_answer self.now.shape (sum k i x) cells.now draft.now }
+        ensures passed { IfOk result (λ u. (has_both self.now.shape cells.now draft.now ≡ true) × (k < self.now.shape.columns) × (x < self.now.shape.columns) × (i < self.now.shape.rows)) }
+        ensures early { IfErr result (λ r. empties_draft r ≡ false) }
+    {
+        let call = CallName::Sum;
+        self.check_lengths(call, k, cells, draft)?;
+        self.check_column(call, k)?;
+        self.check_column(call, x)?;
+        self.check_row(call, k, i)
+    }
+
     // Σ x_j over all rows, as the record of cell i.
     fn summed(&self, k: usize, i: usize, x: usize, cells: &[Record]) -> Result<Record, SheetFault>
         requires whole { has_cells self.now.shape cells.now ≡ true }
@@ -106,32 +125,18 @@ impl Working {
         Ok(sum(column, terms, i).map_err(|fault| (CallName::Sum, k, fault))?)
     }
 
-    // The column as it reads, and the sum in cell i. A sum beyond the limit leaves the draft empty.
-    fn write_sum(
-        &self,
-        k: usize,
-        i: usize,
-        x: usize,
-        cells: &[Record],
-        draft: &mut [Record],
-    ) -> Result<(), SheetFault>
+    // The column as it reads, but for the record in cell i.
+    fn write_cell(&self, k: usize, i: usize, record: Record, cells: &[Record], draft: &mut [Record])
         requires lengths { has_both self.now.shape cells.now draft.old ≡ true }
-        requires named { (k < self.now.shape.columns) × (x < self.now.shape.columns) × (i < self.now.shape.rows) }
-        ensures answer { fault_answer result ≡ first_refusal (limits Sum k (new_column self.now.shape (sum k i x) (columns self.now.shape cells.now)) (i ∷ [])) granted }
-        ensures draft { draft.new ≡ draft_after self.now.shape (calling (sum k i x)) cells.now draft.old (fault_answer result) }
+        requires named { (k < self.now.shape.columns) × (i < self.now.shape.rows) }
+        ensures { draft.new ≡ slice_set (written_rows self.now.shape.rows (columns self.now.shape cells.now k)) i «record» }
     {
-        let summed = self.summed(k, i, x, cells);
-        if summed.is_err() {
-            clear(draft);
-        }
-        let record = summed?;
         let column = self.shape.column(cells, k);
         write_rows(&Copied { column }, draft);
         draft[i] = record;
-        Ok(())
     }
 
-    #[tactic(auto, using(crate::proofs::Exits::answer_opened))]
+    #[tactic(auto, using(crate::proofs::Exits::answer_stopped, crate::proofs::Exits::sum_past, crate::proofs::Exits::sum_written, crate::proofs::Exits::sum_granted))]
     fn sum_rows(
         &self,
         k: usize,
@@ -144,10 +149,17 @@ impl Working {
         ensures draft { draft.new ≡ draft_after self.now.shape (calling (sum k i x)) cells.now draft.old (call_answer self.now.shape (sum k i x) cells.now draft.old) }
         ensures inside { IfOk result (λ u. k < self.now.shape.columns) }
     {
-        let call = CallName::Sum;
-        self.check_columns(call, k, x, cells, draft)?;
-        self.check_row(call, k, i)?;
-        Ok(self.write_sum(k, i, x, cells, draft)?)
+        self.check_sum(k, i, x, cells, draft)?;
+        match self.summed(k, i, x, cells) {
+            Ok(record) => {
+                self.write_cell(k, i, record, cells, draft);
+                Ok(())
+            }
+            Err(fault) => {
+                clear(draft);
+                Err(Refusal::from(fault))
+            }
+        }
     }
 
     fn write_joined<R: JoinRule>(
