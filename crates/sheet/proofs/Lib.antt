@@ -1,6 +1,7 @@
 pub mod Answering
 pub mod Arrangements
 pub mod Checks
+pub mod ColumnLawful
 pub mod Columns
 pub mod Containing
 pub mod ExactDrafts

@@ -1,6 +1,7 @@
 pub mod Answers
 pub mod Calls
 pub mod Checks
+pub mod ColumnLaws
 pub mod ColumnQuestions
 pub mod ExactRuns
 pub mod Faults

@@ -5,7 +5,7 @@ use Rattle.sheet.specs.declared.refusal.CallName.TheVariants.{PermuteRun}
 use Rattle.sheet.specs.declared.refusal.Refusal.{Refusal}
 use Rattle.sheet.specs.declared.refusal.Refusal.TheVariants.{NoPermutation}
 
--- the list is the numbers from 0 to n − 1, each once: it has n places, and each of the numbers stands at one of them
+-- the list is the numbers from 0 to n − 1, each once: it has n places, and each of the numbers stands at exactly one of them
 unfoldable pub is_permutation : (n : ℕ) → List ℕ → Bool
 is_permutation n order = (length order == n) && list_all (λ number. count_by (λ p. p == number) order == 1) (range_with_len 0 n)
 

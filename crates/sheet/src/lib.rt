@@ -1,7 +1,7 @@
 // The sheet: columns of cells in supplied memory, the calls that work on them through a draft, and what every list of calls keeps.
 #![tactic(auto)]
 
-mod column;
+pub mod column;
 mod memory;
 mod new_columns;
 pub mod permutation;
