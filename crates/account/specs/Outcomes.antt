@@ -20,6 +20,11 @@ abbrev pub as_read : Result Record CellFault → Result Value CellFault
 as_read (Ok r) = Ok (read_as r)
 as_read (Err f) = Err f
 
+-- the pair that was worked out; empty where there is none
+abbrev pub pair_value : {L : Type 0} → Result Interval (NoPair L) → Value
+pair_value (Ok i) = bounds i.lower i.upper
+pair_value (Err n) = empty
+
 -- the cell of exactly one unit
 abbrev pub unity : Value
 unity = bounds (pos 100) (pos 100)

@@ -174,9 +174,9 @@ mod tests {
             upper: 39,
         };
         let findings = [
-            Finding::new(1, EMPTY, Some(10), Ok(pair)),
-            Finding::new(2, EMPTY, None, Err(NoPair::Lacking(Silent))),
-            Finding::new(3, EMPTY, Some(20), Err(NoPair::PastLimit(Bound::Upper))),
+            Finding::new(1, EMPTY, Some(10), Ok(pair), Some(pair)),
+            Finding::new(2, EMPTY, None, Err(NoPair::Lacking(Silent)), None),
+            Finding::new(3, EMPTY, Some(20), Err(NoPair::PastLimit(Bound::Upper)), None),
         ];
         let words = Words {
             notes: "",

@@ -1,12 +1,10 @@
 // Where a dip stands beside the pair of its tip.
 ghost use Rattle.std.specs.Prelude.{◌≡◌, Some};
-ghost use Rattle.arithmetic.specs.Values.{bounds};
-ghost use Rattle.cells.specs.Questions.{nested};
-ghost use Rattle.account.specs.Standings.{standing_of, standing_words};
+ghost use Rattle.cells.specs.Cells.{cell_value};
+ghost use Rattle.account.specs.Standings.{dip_value, standing_by, standing_words};
 
 use crate::outcome::Outcome;
-use cells::cell::{Interval, Record};
-use cells::questions::inside;
+use cells::cell::{Cell, Record};
 use cells::reading::read;
 use std::fmt;
 
@@ -32,22 +30,23 @@ impl fmt::Display for Standing {
     }
 }
 
-// Whether a dip lies from the lower to the upper bound: its one-point cell is inside the pair.
-// A dip beyond the limit has no such cell, and no pair reaches it.
-pub fn holds(pair: Interval, dip: i32) -> bool
-    ensures { result ≡ nested (bounds dip dip) (bounds pair.lower pair.upper) }
+// The one-point cell of a dip, empty where none was taken. A dip beyond the limit has no such cell, and no pair reaches it.
+pub fn dip_cell(dip: Option<i32>) -> Cell
+    ensures { cell_value result ≡ dip_value dip }
 {
-    read(Record::from((dip, dip))).is_some_and(|point| inside(Some(point), Some(pair)))
+    let steps = dip?;
+    read(Record::from((steps, steps)))
 }
 
-// Where the dip of a tip stands, once it is known what became of the tip.
-pub fn compare<L: Drop>(outcome: Outcome<L>, dip: Option<i32>) -> Standing
-    ensures { result ≡ standing_of outcome dip }
+// Where the dip of a tip stands, once it is known what became of the tip. `agreed` is what its pair and the cell of its dip have in
+// common: not empty exactly where the dip lies in the pair.
+pub fn compare<L: Drop>(outcome: Outcome<L>, dip: Option<i32>, agreed: Cell) -> Standing
+    ensures { result ≡ standing_by outcome dip (cell_value agreed) }
 {
-    match (outcome, dip) {
-        (_, None) => Standing::NoDip,
-        (Err(_), Some(_)) => Standing::NotCompared,
-        (Ok(pair), Some(steps)) if holds(pair, steps) => Standing::Inside,
-        (Ok(_), Some(_)) => Standing::Outside,
+    match (outcome, dip, agreed) {
+        (_, None, _) => Standing::NoDip,
+        (Err(_), Some(_), _) => Standing::NotCompared,
+        (Ok(_), Some(_), Some(_)) => Standing::Inside,
+        (Ok(_), Some(_), None) => Standing::Outside,
     }
 }
