@@ -2,6 +2,7 @@
 // where its dip stands.
 #![tactic(auto)]
 
+pub mod job;
 pub mod lack;
 pub mod line;
 pub mod working;

@@ -75,7 +75,7 @@ pub fn findings(heap: Global, line: &[Junction; BOXES]) -> Result<Vec<Finding<La
             let row = TIPS_OF_A_BOX * nth + place;
             let outcome = work_out(&mut rounding, junction, place);
             let reading = record_at(&junction.readings, place);
-            found.push(Finding::new(row + 1, reading, junction.dips[place], outcome))?;
+            found.push(Finding::new(row + 1, reading, junction.dips[place], outcome, None))?;
         }
     }
     Ok(found)
