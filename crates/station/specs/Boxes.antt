@@ -1,5 +1,5 @@
 -- The sheet of a junction box: its shape, and what its cells are set to.
-use Rattle.std.specs.Prelude.{ℕ, List, [], ◌∷◌, ℤ, pos, None, Ok, Err, Option, Result, codes, slice_index_or}
+use Rattle.std.specs.Prelude.{ℕ, List, ℤ, pos, None, Ok, Err, Option, Result, codes, slice_index_or}
 use Rattle.arithmetic.specs.Values.{Value, empty}
 use Rattle.cells.specs.declared.cell.Record.{Record}
 use Rattle.cells.specs.declared.fault.CellFault.{CellFault}

@@ -26,6 +26,7 @@ use std::fmt;
 // The columns of the sheet, each with a row for every tip of the box. First the bounds that were worked out, empty where there are
 // none, and the dips, empty where none was taken.
 const WORKED: usize = 0;
+
 const DIPS: usize = 1;
 
 // The pairs of the account.

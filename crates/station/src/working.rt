@@ -1,20 +1,22 @@
-// Working out the line: what became of each tip, and where its dip stands.
+// Working out the line: what became of each tip, where its dip stands, and the total of each box.
 ghost use Rattle.std.specs.Prelude.{◌≡◌, IfOk, vec_len};
+ghost use Rattle.cells.specs.Cells.{cell_value};
 ghost use Rattle.cells.specs.Faults.{kept, in_row};
 ghost use Rattle.account.specs.Lacks.{TellsLack};
 ghost use Rattle.account.specs.Outcomes.{told, as_read};
-ghost use Rattle.station.specs.Findings.{pressure, AllFound};
+ghost use Rattle.station.specs.Boxes.{worked_value};
+ghost use Rattle.station.specs.Findings.{pressure, pressures, AllFound, AllTotals};
 ghost use Rattle.station.specs.Lacks.{lack_of};
 
+use crate::job::{Memory, Missing};
 use crate::lack::{Lack, why};
 use crate::line::{BOXES, Junction, STRIDE, TIPS_OF_A_BOX};
 use account::finding::Finding;
 use account::outcome::{NoPair, Outcome};
 use account::records::record_at;
 use account::units::{one, scale};
-use cells::cell::{Factors, Record, Target};
+use cells::cell::{Cell, Factors, Record, Target};
 use cells::fault::CellFault;
-use cells::reading::read;
 use layouts::band::Band;
 use layouts::product::product_cell;
 use layouts::vector::Vector;
@@ -51,32 +53,65 @@ fn pressure_at(
     product_cell(rounding, factors, &calibration, target, readings)
 }
 
-// What became of the tip at a place of a box.
-pub fn work_out(rounding: &mut Rounding, junction: &Junction, place: usize) -> Outcome<Lack>
+// What is worked out at each place of a box.
+fn pressures_of(
+    rounding: &mut Rounding,
+    junction: &Junction,
+) -> [Result<Record, CellFault>; TIPS_OF_A_BOX]
+    ensures { result ≡ pressures junction.now }
+{
+    [
+        pressure_at(rounding, junction, 0),
+        pressure_at(rounding, junction, 1),
+        pressure_at(rounding, junction, 2),
+    ]
+}
+
+// What became of the tip at a place of a box: its pair, as the box's sheet has it, or why it has none.
+fn became(
+    worked: Result<Record, CellFault>,
+    pair: Cell,
+    junction: &Junction,
+    place: usize,
+) -> Outcome<Lack>
+    requires worked { worked ≡ in_row place (kept (pressure junction.now place)) }
+    requires posted { cell_value pair ≡ worked_value worked }
     ensures value { told place result ≡ as_read (in_row place (kept (pressure junction.now place))) }
     ensures lack { TellsLack (lack_of junction.now.readings place) result }
 {
-    let record = pressure_at(rounding, junction, place)?;
-    read(record).ok_or_else(|| NoPair::Lacking(why(&junction.readings, place)))
+    worked?;
+    pair.ok_or_else(|| NoPair::Lacking(why(&junction.readings, place)))
 }
 
-// What is found of each tip, in the order of the line.
-pub fn findings(heap: Global, line: &[Junction; BOXES]) -> Result<Vec<Finding<Lack>>, AllocError>
-    ensures { IfOk result (λ v. (vec_len v ≡ 12) × AllFound line.now 12 v.items) }
+// What is found of a line: of each tip, and the total of each box, both in the order of the line.
+#[derive(Drop)]
+pub struct LineFound {
+    pub tips: Vec<Finding<Lack>>,
+    pub totals: Vec<Outcome<Missing>>,
+}
+
+pub fn findings(heap: Global, line: &[Junction; BOXES]) -> Result<LineFound, AllocError>
+    ensures { IfOk result (λ f. (vec_len f.tips ≡ 12) × (vec_len f.totals ≡ 4) × AllFound line.now 12 f.tips.items × AllTotals line.now 4 f.totals.items) }
 {
     // what the pairs mean rests on the laws of cells and of layouts; the calls do nothing when the program runs
     cells::laws::laws_stand();
     layouts::laws::laws_stand();
     let mut rounding = Rounding::new();
-    let mut found = Vec::new(heap);
+    let mut memory = Memory::new();
+    let mut tips = Vec::new(heap);
+    let mut totals = Vec::new(heap);
     for (nth, junction) in line.iter().enumerate() {
+        let worked = pressures_of(&mut rounding, junction);
+        totals.push(memory.run(&worked, &junction.dips))?;
         // a place is one in every run of the box; over the dips in place of a range, the loop's proof did not close
         for place in 0..TIPS_OF_A_BOX {
             let row = TIPS_OF_A_BOX * nth + place;
-            let outcome = work_out(&mut rounding, junction, place);
+            let outcome = became(worked[place], memory.pair(place), junction, place);
             let reading = record_at(&junction.readings, place);
-            found.push(Finding::new(row + 1, reading, junction.dips[place], outcome, None))?;
+            let dip = junction.dips[place];
+            let agreed = memory.agreed(place);
+            tips.push(Finding::new(row + 1, reading, dip, outcome, agreed))?;
         }
     }
-    Ok(found)
+    Ok(LineFound { tips, totals })
 }

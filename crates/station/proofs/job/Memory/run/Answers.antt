@@ -1,4 +1,4 @@
-use Rattle.std.proofs.Common.{◌≡◌, ◌≢◌, ◌∙◌, ap, arith}
+use Rattle.std.proofs.Common.{◌∙◌, ap, arith}
 use Rattle.cells.specs.Joins.{met}
 use Rattle.sheet.specs.Memory.{columns}
 use Rattle.station.specs.Boxes.{box_shape, pair_at}

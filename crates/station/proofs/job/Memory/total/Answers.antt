@@ -1,6 +1,6 @@
 use Rattle.std.proofs.Common.{◌≡◌, length, ap, sym, ◌∙◌, rules}
 use Rattle.arithmetic.specs.Values.{Value}
-use Rattle.cells.specs.Cells.{cell_value, cell_at, written}
+use Rattle.cells.specs.Cells.{cell_value, cell_at}
 use Rattle.cells.specs.Faults.{kept}
 use Rattle.cells.specs.Formulas.{sum_cell}
 use Rattle.sheet.specs.Answers.{call_answer}
