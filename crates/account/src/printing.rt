@@ -1,7 +1,7 @@
-// The account as it is printed: a heading, a line for each tip, a legend, the counts, and what to do next.
+// The account as it is printed: a heading, a line for each tip, a legend, a line for each box, the counts, and what to do next.
 use crate::finding::Finding;
 use crate::groups::{Group, Tips, count};
-use crate::outcome::{NoPair, Reason};
+use crate::outcome::{NoPair, Outcome, Reason};
 use crate::units::UNIT;
 use crate::{bar, texts};
 use cells::cell::Interval;
@@ -33,18 +33,28 @@ fn print_heading(rt: &(impl Print + AllocGlobal), tips: usize, notes: &str) -> i
     )
 }
 
+// The bounds of a tip or of a box, in steps and in kPa.
+fn print_bounds(rt: &(impl Print + AllocGlobal), number: usize, pair: Interval) -> io::Result<()> {
+    let lower = texts::kpa(rt.alloc(), pair.lower)?;
+    let upper = texts::kpa(rt.alloc(), pair.upper)?;
+    print!(rt;
+        "{number:>3}  {:>7} to {:>7}  {lower:>8} to {upper:>8}",
+        pair.lower, pair.upper
+    )
+}
+
+// As wide, where there are none.
+fn print_no_bounds(rt: &impl Print, number: usize) -> io::Result<()> {
+    print!(rt; "{number:>3}  {:>9}{:>9} {:>11}{:>10}", "-", "", "-", "")
+}
+
 fn print_pair<L>(
     rt: &(impl Print + AllocGlobal),
     finding: &Finding<L>,
     pair: Interval,
 ) -> io::Result<()> {
-    let lower = texts::kpa(rt.alloc(), pair.lower)?;
-    let upper = texts::kpa(rt.alloc(), pair.upper)?;
     let bar = bar::text(rt.alloc(), pair, finding.dip)?;
-    print!(rt;
-        "{:>3}  {:>7} to {:>7}  {lower:>8} to {upper:>8}",
-        finding.number, pair.lower, pair.upper
-    )?;
+    print_bounds(rt, finding.number, pair)?;
     print_dip(rt, finding)?;
     println!(rt; "[{bar}]")
 }
@@ -54,10 +64,7 @@ fn print_no_pair<L: fmt::Display>(
     finding: &Finding<L>,
     no_pair: &NoPair<L>,
 ) -> io::Result<()> {
-    print!(rt;
-        "{:>3}  {:>9}{:>9} {:>11}{:>10}",
-        finding.number, "-", "", "-", ""
-    )?;
+    print_no_bounds(rt, finding.number)?;
     print_dip(rt, finding)?;
     println!(rt; "{no_pair}")
 }
@@ -82,6 +89,37 @@ fn print_legend(rt: &impl Print) -> io::Result<()> {
     println!(rt;
         "Bar: 10 kPa to a character; = the pair, o the dip, @ both in one; off the scale, shown at its edge."
     )
+}
+
+fn print_total<T: fmt::Display>(
+    rt: &(impl Print + AllocGlobal),
+    number: usize,
+    total: &Outcome<T>,
+) -> io::Result<()> {
+    match total {
+        Ok(sum) => {
+            print_bounds(rt, number, *sum)?;
+            println!(rt)
+        }
+        Err(no_sum) => {
+            print_no_bounds(rt, number)?;
+            println!(rt; "  {no_sum}")
+        }
+    }
+}
+
+// The sum of the pairs of each box.
+fn print_totals<T: fmt::Display>(
+    rt: &(impl Print + AllocGlobal),
+    totals: &[Outcome<T>],
+) -> io::Result<()> {
+    println!(rt)?;
+    println!(rt; "Box   sum in steps          sum in kPa")?;
+    println!(rt; "       lower to   upper     lower to    upper")?;
+    for (nth, total) in totals.iter().enumerate() {
+        print_total(rt, nth + 1, total)?;
+    }
+    println!(rt)
 }
 
 fn print_counts<L: Reason>(
@@ -128,9 +166,11 @@ fn print_next<L: Reason + Copy>(rt: &impl Print, findings: &[Finding<L>]) -> io:
     println!(rt; ".")
 }
 
-pub fn print<L: Reason + fmt::Display + Copy>(
+// The findings of the tips and the totals of the boxes, both in the order of the line.
+pub fn print<L: Reason + fmt::Display + Copy, T: fmt::Display>(
     rt: &(impl Print + AllocGlobal),
     findings: &[Finding<L>],
+    totals: &[Outcome<T>],
     words: Words,
 ) -> io::Result<()> {
     print_heading(rt, findings.len(), words.notes)?;
@@ -138,6 +178,7 @@ pub fn print<L: Reason + fmt::Display + Copy>(
         print_finding(rt, finding)?;
     }
     print_legend(rt)?;
+    print_totals(rt, totals)?;
     print_counts(rt, findings, words.lacking)?;
     print_next(rt, findings)
 }
@@ -176,12 +217,23 @@ mod tests {
         let findings = [
             Finding::new(1, EMPTY, Some(10), Ok(pair), Some(pair)),
             Finding::new(2, EMPTY, None, Err(NoPair::Lacking(Silent)), None),
-            Finding::new(3, EMPTY, Some(20), Err(NoPair::PastLimit(Bound::Upper)), None),
+            Finding::new(
+                3,
+                EMPTY,
+                Some(20),
+                Err(NoPair::PastLimit(Bound::Upper)),
+                None,
+            ),
         ];
         let words = Words {
             notes: "",
             lacking: "silent",
         };
-        print(&rt, &findings, words)
+        let totals = [
+            Ok(pair),
+            Err(NoPair::Lacking(Silent)),
+            Err(NoPair::PastLimit(Bound::Lower)),
+        ];
+        print(&rt, &findings, &totals, words)
     }
 }
