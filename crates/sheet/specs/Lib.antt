@@ -11,6 +11,7 @@ pub mod NewColumns
 pub mod Outcomes
 pub mod Permutations
 pub mod Promises
+pub mod Questions
 pub mod Refusals
 pub mod Runs
 pub mod Shapes

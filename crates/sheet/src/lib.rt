@@ -5,6 +5,7 @@ pub mod column;
 mod memory;
 mod new_columns;
 pub mod permutation;
+pub mod questions;
 pub mod refusal;
 mod rows;
 pub mod shape;
