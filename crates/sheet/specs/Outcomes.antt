@@ -1,6 +1,5 @@
--- What the calls of the code answer, in the words of the model: the answer, and the stage and the shape of the sheet that is handed on
--- or handed back.
-use Rattle.std.specs.Prelude.{cond, List, Ok, Err, Result}
+-- What the calls of the code answer and leave, in the words of the model: their contracts.
+use Rattle.std.specs.Prelude.{◌≡◌, ℕ, Bool, cond, List, [], ℤ, Ok, Err, Result}
 use Rattle.cells.specs.declared.cell.Record.{Record}
 use Rattle.sheet.specs.declared.refusal.Refusal.{Refusal}
 use Rattle.sheet.specs.declared.shape.Shape.{Shape}
@@ -10,9 +9,11 @@ use Rattle.sheet.specs.declared.states.NotBegun.{NotBegun}
 use Rattle.sheet.specs.declared.states.Refused.{Refused}
 use Rattle.sheet.specs.declared.states.StillDrafted.{StillDrafted}
 use Rattle.sheet.specs.declared.states.Working.{Working}
-use Rattle.sheet.specs.Answers.{Stage, filling, working, drafted, Ask, answer, stage_after}
+use Rattle.sheet.specs.Answers.{Stage, filling, working, drafted, Ask, setting, beginning, calling, posting, withdrawing, open_answer, set_answer, call_answer, answer, stage_after, cells_after, draft_after, cells_opened, draft_opened}
+use Rattle.sheet.specs.Calls.{Call}
 use Rattle.sheet.specs.Checks.{Answer, granted, refused}
 
+-- an answer, and the stage and the shape of the sheet that is handed on or handed back with it
 pub record Outcome : Type 0 where
   pub answer : Answer
   pub stage : Stage
@@ -49,7 +50,44 @@ abbrev pub called : Result Drafted Refused → Outcome
 called (Ok d) = record { answer = granted; stage = stage_of d; shape = d.shape }
 called (Err e) = record { answer = refused e.refusal; stage = working; shape = e.sheet.shape }
 
--- a sheet that is handed back is drafted as it was: that it is spent no more than it was stands in a clause of its own
+-- a sheet that is handed back is drafted as it was, and its draft is spent no more than it was
 abbrev pub closed : Result Working StillDrafted → Outcome
 closed (Ok w) = record { answer = granted; stage = working; shape = w.shape }
 closed (Err e) = record { answer = refused e.refusal; stage = drafted e.sheet.column; shape = e.sheet.shape }
+
+abbrev pub StillStands : Bool → Result Working StillDrafted → Type 0
+StillStands spent (Ok w) = Unit {0}
+StillStands spent (Err e) = e.sheet.spent ≡ spent
+
+-- ---- the whole of what each call answers and leaves: the contracts of the code
+
+-- Filling::open, supplied the cells and the draft, which it leaves as cells' and draft'
+pub record Opens (s : Shape) (cells draft : List Record) (result : Result Filling Refusal) (cells' draft' : List Record) : Type 0 where
+  pub answers : opened result ≡ shape_or s (open_answer s cells draft)
+  pub leaves_cells : cells' ≡ cells_opened s cells (open_answer s cells draft)
+  pub leaves_draft : draft' ≡ draft_opened s draft (open_answer s cells draft)
+
+-- Filling::set, supplied the cells
+pub record Sets (s : Shape) (k row : ℕ) (lower upper : ℤ) (cells : List Record) (result : Result (Unit {0}) Refusal) (cells' : List Record) : Type 0 where
+  pub answers : answer_of result ≡ set_answer s k row lower upper cells
+  pub leaves_cells : cells' ≡ cells_after s filling (setting k row lower upper) cells [] (set_answer s k row lower upper cells)
+
+-- Filling::begin, supplied the cells, of which it writes none
+pub record Begins (s : Shape) (cells : List Record) (result : Result Working NotBegun) : Type 0 where
+  pub answers : begun result ≡ outcome s filling beginning cells []
+
+-- each of the calls of Working, supplied the cells, of which it writes none, and the draft
+pub record Calls (s : Shape) (call : Call) (cells draft : List Record) (result : Result Drafted Refused) (draft' : List Record) : Type 0 where
+  pub answers : called result ≡ outcome s working (calling call) cells draft
+  pub leaves_draft : draft' ≡ draft_after s (calling call) cells draft (call_answer s call cells draft)
+
+-- Drafted::post of a draft for column k, supplied both; one that is refused is handed back with its draft standing
+pub record Posts (s : Shape) (k : ℕ) (cells draft : List Record) (result : Result Working StillDrafted) (cells' draft' : List Record) : Type 0 where
+  pub answers : closed result ≡ outcome s (drafted k) posting cells draft
+  pub leaves_cells : cells' ≡ cells_after s (drafted k) posting cells draft (answer s (drafted k) posting cells draft)
+  pub leaves_draft : draft' ≡ draft_after s posting cells draft (answer s (drafted k) posting cells draft)
+
+-- Drafted::withdraw, supplied both, of which it writes the draft
+pub record Withdraws (s : Shape) (k : ℕ) (cells draft : List Record) (result : Result Working StillDrafted) (draft' : List Record) : Type 0 where
+  pub answers : closed result ≡ outcome s (drafted k) withdrawing cells draft
+  pub leaves_draft : draft' ≡ draft_after s withdrawing cells draft (answer s (drafted k) withdrawing cells draft)

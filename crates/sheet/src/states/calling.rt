@@ -6,7 +6,7 @@ ghost use Rattle.sheet.specs.Calls.{sum, join, copy, permute};
 ghost use Rattle.sheet.specs.Checks.{granted, refused, check, first_refusal, column_named};
 ghost use Rattle.sheet.specs.Memory.{has_cells, has_both, column, columns, written_rows};
 ghost use Rattle.sheet.specs.NewColumns.{new_column};
-ghost use Rattle.sheet.specs.Outcomes.{answer_of, called, outcome};
+ghost use Rattle.sheet.specs.Outcomes.{answer_of, called, Calls};
 ghost use Rattle.sheet.specs.Faults.{in_call};
 ghost use Rattle.sheet.specs.declared.refusal.CallName.TheVariants.{Sum};
 ghost use Rattle.sheet.specs.declared.refusal.Refusal.TheVariants.{WrongLength, NoSuchColumn, NoSuchRow};
@@ -253,8 +253,7 @@ impl Working {
         cells: &[Record],
         draft: &mut [Record],
     ) -> Result<Drafted, Refused>
-        ensures answer { called result ≡ outcome self.shape working (calling (sum k i x)) cells.now draft.old }
-        ensures draft { draft.new ≡ draft_after self.shape (calling (sum k i x)) cells.now draft.old (call_answer self.shape (sum k i x) cells.now draft.old) }
+        ensures { Calls self.shape (sum k i x) cells.now draft.old result draft.new }
     {
         let came = self.sum_rows(k, i, x, cells, draft);
         self.drafted(k, came)
@@ -269,8 +268,7 @@ impl Working {
         cells: &[Record],
         draft: &mut [Record],
     ) -> Result<Drafted, Refused>
-        ensures answer { called result ≡ outcome self.shape working (calling (join k x (R.JoinRule.rule rule.now))) cells.now draft.old }
-        ensures draft { draft.new ≡ draft_after self.shape (calling (join k x (R.JoinRule.rule rule.now))) cells.now draft.old (call_answer self.shape (join k x (R.JoinRule.rule rule.now)) cells.now draft.old) }
+        ensures { Calls self.shape (join k x (R.JoinRule.rule rule.now)) cells.now draft.old result draft.new }
     {
         let came = self.join_rows(k, x, rule, cells, draft);
         self.drafted(k, came)
@@ -284,8 +282,7 @@ impl Working {
         cells: &[Record],
         draft: &mut [Record],
     ) -> Result<Drafted, Refused>
-        ensures answer { called result ≡ outcome self.shape working (calling (permute k order.now)) cells.now draft.old }
-        ensures draft { draft.new ≡ draft_after self.shape (calling (permute k order.now)) cells.now draft.old (call_answer self.shape (permute k order.now) cells.now draft.old) }
+        ensures { Calls self.shape (permute k order.now) cells.now draft.old result draft.new }
     {
         let came = self.permute_rows(k, order, cells, draft);
         self.drafted(k, came)
@@ -299,8 +296,7 @@ impl Working {
         cells: &[Record],
         draft: &mut [Record],
     ) -> Result<Drafted, Refused>
-        ensures answer { called result ≡ outcome self.shape working (calling (copy k x)) cells.now draft.old }
-        ensures draft { draft.new ≡ draft_after self.shape (calling (copy k x)) cells.now draft.old (call_answer self.shape (copy k x) cells.now draft.old) }
+        ensures { Calls self.shape (copy k x) cells.now draft.old result draft.new }
     {
         let came = self.copy_rows(k, x, cells, draft);
         self.drafted(k, came)

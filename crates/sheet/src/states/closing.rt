@@ -1,7 +1,6 @@
 // Ending a draft: posted to its column, or withdrawn.
-ghost use Rattle.std.specs.Prelude.{◌≡◌, IfErr};
-ghost use Rattle.sheet.specs.Answers.{drafted, posting, withdrawing, answer, cells_after, draft_after};
-ghost use Rattle.sheet.specs.Outcomes.{outcome, closed};
+ghost use Rattle.std.specs.Prelude.{◌≡◌};
+ghost use Rattle.sheet.specs.Outcomes.{Posts, Withdraws, StillStands};
 ghost use Rattle.sheet.specs.declared.refusal.Refusal.TheVariants.{WrongLength};
 
 use crate::memory::clear;
@@ -28,10 +27,8 @@ impl Drafted {
         cells: &mut [Record],
         draft: &mut [Record],
     ) -> Result<Working, StillDrafted>
-        ensures answer { closed result ≡ outcome self.shape (drafted self.column) posting cells.old draft.old }
-        ensures standing { IfErr result (λ e. e.sheet.spent ≡ self.spent) }
-        ensures cells { cells.new ≡ cells_after self.shape (drafted self.column) posting cells.old draft.old (answer self.shape (drafted self.column) posting cells.old draft.old) }
-        ensures draft { draft.new ≡ draft_after self.shape posting cells.old draft.old (answer self.shape (drafted self.column) posting cells.old draft.old) }
+        ensures posts { Posts self.shape self.column cells.old draft.old result cells.new draft.new }
+        ensures standing { StillStands self.spent result }
     {
         if !self.shape.has_both(cells, draft) {
             return Err(self.refused(CallName::Post));
@@ -50,9 +47,8 @@ impl Drafted {
         cells: &[Record],
         draft: &mut [Record],
     ) -> Result<Working, StillDrafted>
-        ensures answer { closed result ≡ outcome self.shape (drafted self.column) withdrawing cells.now draft.old }
-        ensures standing { IfErr result (λ e. e.sheet.spent ≡ self.spent) }
-        ensures draft { draft.new ≡ draft_after self.shape withdrawing cells.now draft.old (answer self.shape (drafted self.column) withdrawing cells.now draft.old) }
+        ensures withdraws { Withdraws self.shape self.column cells.now draft.old result draft.new }
+        ensures standing { StillStands self.spent result }
     {
         if !self.shape.has_both(cells, draft) {
             return Err(self.refused(CallName::Withdraw));
