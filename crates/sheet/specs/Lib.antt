@@ -6,6 +6,7 @@ pub mod ColumnQuestions
 pub mod ExactRuns
 pub mod Faults
 pub mod Formulas
+pub mod Histories
 pub mod Memory
 pub mod NewColumns
 pub mod Outcomes

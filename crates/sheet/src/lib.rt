@@ -2,6 +2,7 @@
 #![tactic(auto)]
 
 pub mod column;
+pub mod laws;
 mod memory;
 mod new_columns;
 pub mod permutation;

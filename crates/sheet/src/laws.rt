@@ -1,0 +1,11 @@
+// What every run of a sheet keeps, and how the calls of the code carry runs on: theorems that the gate asks for, since contracts name
+// them. The calls do nothing when a program runs.
+ghost use Rattle.sheet.specs.Promises.{Promises};
+
+// The promises, over every list of what a sheet can be asked. They rest on the laws of cells and of layouts.
+pub fn promises_hold()
+    ensures { Promises }
+{
+    cells::laws::laws_stand();
+    layouts::laws::laws_stand();
+}
