@@ -12,7 +12,7 @@ use Rattle.sheet.specs.declared.states.StillDrafted.{StillDrafted}
 use Rattle.sheet.specs.declared.states.Working.{Working}
 use Rattle.sheet.specs.Answers.{Stage, filling, working, drafted, Ask, setting, beginning, calling, posting, withdrawing, empties_draft}
 use Rattle.sheet.specs.Calls.{Call}
-use Rattle.sheet.specs.Checks.{Answer, granted, refused}
+use Rattle.sheet.specs.Checks.{Answer, refused}
 use Rattle.sheet.specs.Outcomes.{Outcome, answer_of, begun, called, closed, Opens, Sets, Begins, Calls, Posts, Withdraws}
 use Rattle.sheet.specs.Runs.{Event, told, Ran}
 

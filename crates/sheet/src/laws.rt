@@ -1,5 +1,6 @@
 // What every run of a sheet keeps, and how the calls of the code carry runs on: theorems that the gate asks for, since contracts name
 // them. The calls do nothing when a program runs.
+ghost use Rattle.sheet.specs.Histories.{Histories};
 ghost use Rattle.sheet.specs.Promises.{Promises};
 
 // The promises, over every list of what a sheet can be asked. They rest on the laws of cells and of layouts.
@@ -9,3 +10,8 @@ pub fn promises_hold()
     cells::laws::laws_stand();
     layouts::laws::laws_stand();
 }
+
+// Every call of the code, whatever history led to what it was supplied, carries the run on to what it answers and leaves.
+pub fn runs_go_on()
+    ensures { Histories }
+{}

@@ -1,6 +1,8 @@
 // Opening a sheet and filling it, cell after cell.
 ghost use Rattle.sheet.specs.Outcomes.{Opens, Sets, Begins};
+ghost use Rattle.sheet.specs.Promises.{Promises};
 
+use crate::laws::promises_hold;
 use crate::memory::clear;
 use crate::refusal::{CallName, Refusal};
 use crate::shape::Shape;
@@ -74,10 +76,13 @@ impl Filling {
         Ok(())
     }
 
-    // The filled sheet as a working one. Nothing is written.
+    // The filled sheet as a working one. Nothing is written. Every program makes this call, so it is where the promises stand: what every
+    // run of the sheet keeps from here on, whatever is asked of it.
     pub fn begin(self, cells: &[Record]) -> Result<Working, NotBegun>
-        ensures { Begins self.shape cells.now result }
+        ensures begins { Begins self.shape cells.now result }
+        ensures promises { Promises }
     {
+        promises_hold();
         if !self.shape.has_cells(cells) {
             return Err(NotBegun {
                 refusal: Refusal::WrongLength {
