@@ -16,3 +16,4 @@ pub mod Questions
 pub mod Refusals
 pub mod Runs
 pub mod Shapes
+pub mod Words

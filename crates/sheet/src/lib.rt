@@ -11,3 +11,4 @@ pub mod refusal;
 mod rows;
 pub mod shape;
 pub mod states;
+pub mod words;
