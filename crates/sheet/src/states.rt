@@ -8,6 +8,7 @@ use crate::refusal::Refusal;
 use crate::shape::Shape;
 
 pub mod calling;
+mod checking;
 pub mod closing;
 pub mod opening;
 

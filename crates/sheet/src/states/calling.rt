@@ -22,59 +22,6 @@ use cells::formulas::sum;
 use cells::rules::JoinRule;
 
 impl Working {
-    fn check_lengths(
-        &self,
-        call: CallName,
-        column: usize,
-        cells: &[Record],
-        draft: &[Record],
-    ) -> Result<(), Refusal>
-        ensures { MatchResult result (λ u. has_both self.now.shape cells.now draft.now ≡ true) (λ r. (has_both self.now.shape cells.now draft.now ≡ false) × (r ≡ WrongLength call column)) }
-    {
-        if self.shape.has_both(cells, draft) {
-            Ok(())
-        } else {
-            Err(Refusal::WrongLength { call, column })
-        }
-    }
-
-    fn check_column(&self, call: CallName, column: usize) -> Result<(), Refusal>
-        ensures { MatchResult result (λ u. column < self.now.shape.columns) (λ r. (self.now.shape.columns ≤ column) × (r ≡ NoSuchColumn call column)) }
-    {
-        if column < self.shape.columns {
-            Ok(())
-        } else {
-            Err(Refusal::NoSuchColumn { call, column })
-        }
-    }
-
-    // The lengths, the target and one other column.
-    fn check_columns(
-        &self,
-        call: CallName,
-        k: usize,
-        x: usize,
-        cells: &[Record],
-        draft: &[Record],
-    ) -> Result<(), Refusal>
-        ensures answer { answer_of result ≡ first_refusal (check (has_both self.now.shape cells.now draft.now) (WrongLength call k) ∷ (column_named self.now.shape call k ∷ (column_named self.now.shape call x ∷ []))) granted }
-        ensures passed { IfOk result (λ u. (has_both self.now.shape cells.now draft.now ≡ true) × (k < self.now.shape.columns) × (x < self.now.shape.columns)) }
-    {
-        self.check_lengths(call, k, cells, draft)?;
-        self.check_column(call, k)?;
-        self.check_column(call, x)
-    }
-
-    fn check_row(&self, call: CallName, column: usize, row: usize) -> Result<(), Refusal>
-        ensures { MatchResult result (λ u. row < self.now.shape.rows) (λ r. (self.now.shape.rows ≤ row) × (r ≡ NoSuchRow call column row)) }
-    {
-        if row < self.shape.rows {
-            Ok(())
-        } else {
-            Err(Refusal::NoSuchRow { call, column, row })
-        }
-    }
-
     // What became of a call on column k: the draft stands for it, or the sheet is handed back.
     fn drafted(self, k: usize, came: Result<(), Refusal>) -> Result<Drafted, Refused>
         requires { IfOk came (λ u. k < self.shape.columns) }
@@ -213,8 +160,10 @@ impl Working {
         ensures inside { IfOk result (λ u. k < self.now.shape.columns) }
     {
         self.check_columns(CallName::Copy, k, x, cells, draft)?;
-        let column = self.shape.column(cells, x);
-        write_rows(&Copied { column }, draft);
+        let copied = Copied {
+            column: self.shape.column(cells, x),
+        };
+        write_rows(&copied, draft);
         Ok(())
     }
 

@@ -1,5 +1,6 @@
 // Ending a draft: posted to its column, or withdrawn.
-ghost use Rattle.std.specs.Prelude.{◌≡◌};
+ghost use Rattle.std.specs.Prelude.{◌≡◌, length};
+ghost use Rattle.sheet.specs.Memory.{blanks};
 ghost use Rattle.sheet.specs.Outcomes.{Posts, Withdraws, StillStands};
 ghost use Rattle.sheet.specs.declared.refusal.Refusal.TheVariants.{WrongLength};
 
@@ -21,12 +22,18 @@ impl Drafted {
         }
     }
 
+    // Empties the draft and spends the state: it may be let go now.
+    fn spend(mut self, draft: &mut [Record]) -> Working
+        ensures shape { result.shape ≡ self.shape }
+        ensures draft { draft.new ≡ blanks (length draft.old) }
+    {
+        clear(draft);
+        self.spent = true;
+        Working { shape: self.shape }
+    }
+
     // Copies the draft to its column, and empties it.
-    pub fn post(
-        mut self,
-        cells: &mut [Record],
-        draft: &mut [Record],
-    ) -> Result<Working, StillDrafted>
+    pub fn post(self, cells: &mut [Record], draft: &mut [Record]) -> Result<Working, StillDrafted>
         ensures posts { Posts self.shape self.column cells.old draft.old result cells.new draft.new }
         ensures standing { StillStands self.spent result }
     {
@@ -36,25 +43,17 @@ impl Drafted {
         let rows = self.shape.rows;
         let from = self.column * rows;
         cells[from..from + rows].copy_from_slice(draft);
-        clear(draft);
-        self.spent = true;
-        Ok(Working { shape: self.shape })
+        Ok(self.spend(draft))
     }
 
     // Empties the draft, and leaves the columns as they are.
-    pub fn withdraw(
-        mut self,
-        cells: &[Record],
-        draft: &mut [Record],
-    ) -> Result<Working, StillDrafted>
+    pub fn withdraw(self, cells: &[Record], draft: &mut [Record]) -> Result<Working, StillDrafted>
         ensures withdraws { Withdraws self.shape self.column cells.now draft.old result draft.new }
         ensures standing { StillStands self.spent result }
     {
         if !self.shape.has_both(cells, draft) {
             return Err(self.refused(CallName::Withdraw));
         }
-        clear(draft);
-        self.spent = true;
-        Ok(Working { shape: self.shape })
+        Ok(self.spend(draft))
     }
 }
