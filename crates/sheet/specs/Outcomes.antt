@@ -1,5 +1,5 @@
 -- What the calls of the code answer and leave, in the words of the model: their contracts.
-use Rattle.std.specs.Prelude.{◌≡◌, ℕ, Bool, cond, List, [], ℤ, Ok, Err, Result}
+use Rattle.std.specs.Prelude.{◌≡◌, ℕ, Bool, cond, List, [], ℤ, Ok, Err, Result, IfOk, ◌<◌}
 use Rattle.cells.specs.declared.cell.Record.{Record}
 use Rattle.sheet.specs.declared.refusal.Refusal.{Refusal}
 use Rattle.sheet.specs.declared.shape.Shape.{Shape}
@@ -10,7 +10,7 @@ use Rattle.sheet.specs.declared.states.Refused.{Refused}
 use Rattle.sheet.specs.declared.states.StillDrafted.{StillDrafted}
 use Rattle.sheet.specs.declared.states.Working.{Working}
 use Rattle.sheet.specs.Answers.{Stage, filling, working, drafted, Ask, setting, beginning, calling, posting, withdrawing, open_answer, set_answer, call_answer, answer, stage_after, cells_after, draft_after, cells_opened, draft_opened}
-use Rattle.sheet.specs.Calls.{Call}
+use Rattle.sheet.specs.Calls.{Call, target}
 use Rattle.sheet.specs.Checks.{Answer, granted, refused}
 
 -- an answer, and the stage and the shape of the sheet that is handed on or handed back with it
@@ -80,6 +80,12 @@ pub record Begins (s : Shape) (cells : List Record) (result : Result Working Not
 pub record Calls (s : Shape) (call : Call) (cells draft : List Record) (result : Result Drafted Refused) (draft' : List Record) : Type 0 where
   pub answers : called result ≡ outcome s working (calling call) cells draft
   pub leaves_draft : draft' ≡ draft_after s (calling call) cells draft (call_answer s call cells draft)
+
+-- the same before there is a state for it
+pub record Drafts (s : Shape) (call : Call) (cells draft : List Record) (result : Result (Unit {0}) Refusal) (draft' : List Record) : Type 0 where
+  pub answers : answer_of result ≡ call_answer s call cells draft
+  pub leaves_draft : draft' ≡ draft_after s (calling call) cells draft (call_answer s call cells draft)
+  pub aims : IfOk result (λ u. target call < s.columns)
 
 -- Drafted::post of a draft for column k, supplied both; one that is refused is handed back with its draft standing
 pub record Posts (s : Shape) (k : ℕ) (cells draft : List Record) (result : Result Working StillDrafted) (cells' draft' : List Record) : Type 0 where

@@ -6,7 +6,7 @@ ghost use Rattle.sheet.specs.Calls.{sum, join, copy, permute};
 ghost use Rattle.sheet.specs.Checks.{granted, refused, check, first_refusal, column_named};
 ghost use Rattle.sheet.specs.Memory.{has_cells, has_both, column, columns, written_rows};
 ghost use Rattle.sheet.specs.NewColumns.{new_column};
-ghost use Rattle.sheet.specs.Outcomes.{answer_of, called, Calls};
+ghost use Rattle.sheet.specs.Outcomes.{answer_of, called, Calls, Drafts};
 ghost use Rattle.sheet.specs.Faults.{in_call};
 ghost use Rattle.sheet.specs.declared.refusal.CallName.TheVariants.{Sum};
 ghost use Rattle.sheet.specs.declared.refusal.Refusal.TheVariants.{WrongLength, NoSuchColumn, NoSuchRow};
@@ -92,9 +92,7 @@ impl Working {
         cells: &[Record],
         draft: &mut [Record],
     ) -> Result<(), Refusal>
-        ensures answer { answer_of result ≡ call_answer self.now.shape (sum k i x) cells.now draft.old }
-        ensures draft { draft.new ≡ draft_after self.now.shape (calling (sum k i x)) cells.now draft.old (call_answer self.now.shape (sum k i x) cells.now draft.old) }
-        ensures inside { IfOk result (λ u. k < self.now.shape.columns) }
+        ensures { Drafts self.now.shape (sum k i x) cells.now draft.old result draft.new }
     {
         self.check_sum(k, i, x, cells, draft)?;
         match self.summed(k, i, x, cells) {
@@ -138,9 +136,7 @@ impl Working {
         cells: &[Record],
         draft: &mut [Record],
     ) -> Result<(), Refusal>
-        ensures answer { answer_of result ≡ call_answer self.now.shape (join k x (R.JoinRule.rule rule.now)) cells.now draft.old }
-        ensures draft { draft.new ≡ draft_after self.now.shape (calling (join k x (R.JoinRule.rule rule.now))) cells.now draft.old (call_answer self.now.shape (join k x (R.JoinRule.rule rule.now)) cells.now draft.old) }
-        ensures inside { IfOk result (λ u. k < self.now.shape.columns) }
+        ensures { Drafts self.now.shape (join k x (R.JoinRule.rule rule.now)) cells.now draft.old result draft.new }
     {
         self.check_columns(CallName::Join, k, x, cells, draft)?;
         self.write_joined(k, x, rule, cells, draft);
@@ -155,9 +151,7 @@ impl Working {
         cells: &[Record],
         draft: &mut [Record],
     ) -> Result<(), Refusal>
-        ensures answer { answer_of result ≡ call_answer self.now.shape (copy k x) cells.now draft.old }
-        ensures draft { draft.new ≡ draft_after self.now.shape (calling (copy k x)) cells.now draft.old (call_answer self.now.shape (copy k x) cells.now draft.old) }
-        ensures inside { IfOk result (λ u. k < self.now.shape.columns) }
+        ensures { Drafts self.now.shape (copy k x) cells.now draft.old result draft.new }
     {
         self.check_columns(CallName::Copy, k, x, cells, draft)?;
         let copied = Copied {
@@ -175,9 +169,7 @@ impl Working {
         cells: &[Record],
         draft: &mut [Record],
     ) -> Result<(), Refusal>
-        ensures answer { answer_of result ≡ call_answer self.now.shape (permute k order.now) cells.now draft.old }
-        ensures draft { draft.new ≡ draft_after self.now.shape (calling (permute k order.now)) cells.now draft.old (call_answer self.now.shape (permute k order.now) cells.now draft.old) }
-        ensures inside { IfOk result (λ u. k < self.now.shape.columns) }
+        ensures { Drafts self.now.shape (permute k order.now) cells.now draft.old result draft.new }
     {
         let call = CallName::Permute;
         self.check_lengths(call, k, cells, draft)?;
