@@ -13,6 +13,7 @@ use Rattle.cells.specs.declared.cell.Record.{Record}
 use Rattle.cells.specs.Cells.{IsCell}
 use Rattle.cells.specs.Quotients.{zero_in}
 use Rattle.layouts.specs.Matrix.{Matrix}
+use Rattle.sheet.specs.CallLaws.{Passed, Fits, AllFit}
 use Rattle.sheet.specs.declared.refusal.CallName.{CallName}
 use Rattle.sheet.specs.declared.refusal.Refusal.TheVariants.{WrongLength}
 use Rattle.sheet.specs.declared.shape.Shape.{Shape}
@@ -23,10 +24,6 @@ use Rattle.sheet.specs.Memory.{has_both, columns}
 use Rattle.sheet.specs.NewColumns.{new_column}
 
 -- ---- any list of checks
-abbrev pub Passed : List Check → Type 0
-Passed [] = Unit {0}
-Passed (check passes refusal ∷ rest) = (passes ≡ true) × Passed rest
-
 pub all_passed : (list : List Check) (then : Answer) → first_refusal list then ≡ granted → Passed list × (then ≡ granted)
 all_passed [] then e = (tt, e)
 all_passed (check true refusal ∷ rest) then e = let p = all_passed rest then e in ((refl, p.0), p.1)
@@ -57,9 +54,6 @@ grants s call cells draft p =
     ∙ passed_all (limits (name call) (target call) (new_column s call (columns s cells)) (worked_rows s call)) granted p.limited
 
 -- ---- the limit of a bound
-abbrev pub Fits : Value → Type 0
-Fits c = (lower_fits c ≡ true) × (upper_fits c ≡ true)
-
 pub limits_fit : (call : CallName) (k : ℕ) (new : ℕ → Value) (rows : List ℕ) → Passed (limits call k new rows) → All (λ row. Fits (new row)) rows
 limits_fit call k new [] p = All-nil (λ row. Fits (new row))
 limits_fit call k new (row ∷ rows) p = All-cons (λ row. Fits (new row)) row rows (p.0, p.1.0) (limits_fit call k new rows p.1.1)

@@ -12,6 +12,7 @@ use Rattle.cells.specs.Reading.{read_cell}
 use Rattle.cells.specs.Rules.{Rule, Admitted}
 use Rattle.cells.specs.Scales.{IsScale}
 use Rattle.layouts.specs.Laws.{Laws as LayoutLaws}
+use Rattle.sheet.specs.CallLaws.{Passed, Fits}
 use Rattle.sheet.specs.declared.shape.Shape.{Shape}
 use Rattle.sheet.specs.Calls.{Call, dot, sum, blend, product, solve, join, copy, permute, alpha_of, beta_of, entry_of}
 use Rattle.sheet.specs.Checks.{checks, worked_rows}
@@ -19,7 +20,7 @@ use Rattle.sheet.specs.ExactRuns.{Choice, Follows}
 use Rattle.sheet.specs.Formulas.{Of, Reached, Only, Gives, no_value, value}
 use Rattle.sheet.specs.Memory.{columns, column}
 use Rattle.sheet.specs.NewColumns.{new_column}
-use Rattle.sheet.proofs.Checks.{Passed, Fits, fits_cell}
+use Rattle.sheet.proofs.Checks.{fits_cell}
 use Rattle.sheet.proofs.Growth.{Plain, Fewer, formula_grows}
 use Rattle.sheet.proofs.Orders.{by_order}
 use Rattle.sheet.proofs.Tightness.{AllCells, new_tight}

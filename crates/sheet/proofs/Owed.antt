@@ -7,6 +7,7 @@ use Rattle.cells.specs.Cells.{IsCell}
 use Rattle.cells.specs.Laws.{Laws as CellLaws}
 use Rattle.cells.specs.Scales.{IsScale}
 use Rattle.layouts.specs.Laws.{Laws as LayoutLaws}
+use Rattle.sheet.specs.CallLaws.{Fits}
 use Rattle.sheet.specs.declared.shape.Shape.{Shape}
 use Rattle.sheet.specs.Answers.{call_answer}
 use Rattle.sheet.specs.Calls.{Call, name, target}
@@ -15,7 +16,7 @@ use Rattle.sheet.specs.Memory.{columns}
 use Rattle.sheet.specs.NewColumns.{new_column}
 use Rattle.sheet.specs.Promises.{ColumnsWithin, CallInside}
 use Rattle.sheet.specs.Shapes.{Legal}
-use Rattle.sheet.proofs.Checks.{passes, grants, Fits, limits_fit, fit_limits, cell_fits, nested_cell}
+use Rattle.sheet.proofs.Checks.{passes, grants, limits_fit, fit_limits, cell_fits, nested_cell}
 use Rattle.sheet.proofs.ExactDrafts.{follows}
 use Rattle.sheet.proofs.Holding.{columns_cells, tight, new_cell, new_holds}
 use Rattle.sheet.proofs.Inside.{passes_inside, new_nests, same_target}

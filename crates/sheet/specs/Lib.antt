@@ -1,4 +1,5 @@
 pub mod Answers
+pub mod CallLaws
 pub mod Calls
 pub mod Checks
 pub mod ColumnLaws

@@ -1,5 +1,6 @@
 // What every run of a sheet keeps, and how the calls of the code carry runs on: theorems that the gate asks for, since contracts name
 // them. The calls do nothing when a program runs.
+ghost use Rattle.sheet.specs.CallLaws.{CallLaws};
 ghost use Rattle.sheet.specs.Histories.{Histories};
 ghost use Rattle.sheet.specs.Promises.{Promises};
 
@@ -15,3 +16,11 @@ pub fn promises_hold()
 pub fn runs_go_on()
     ensures { Histories }
 {}
+
+// The definitions of the calls come to what they should: a solve works row after row and its column solves its equations, a refusal
+// for a bound beyond the limit names the first one, and a call is granted where all checks pass and nowhere else.
+pub fn calls_stand()
+    ensures { CallLaws }
+{
+    layouts::laws::laws_stand();
+}
