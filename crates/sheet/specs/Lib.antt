@@ -1,6 +1,7 @@
 pub mod Answers
 pub mod CallLaws
 pub mod Calls
+pub mod Cases
 pub mod Checks
 pub mod ColumnLaws
 pub mod ColumnQuestions

@@ -1,6 +1,8 @@
 // What every run of a sheet keeps, and how the calls of the code carry runs on: theorems that the gate asks for, since contracts name
 // them. The calls do nothing when a program runs.
+ghost use Rattle.cells.specs.Cases.{AllHold};
 ghost use Rattle.sheet.specs.CallLaws.{CallLaws};
+ghost use Rattle.sheet.specs.Cases.{cases};
 ghost use Rattle.sheet.specs.Histories.{Histories};
 ghost use Rattle.sheet.specs.Promises.{Promises};
 
@@ -23,4 +25,11 @@ pub fn calls_stand()
     ensures { CallLaws }
 {
     layouts::laws::laws_stand();
+}
+
+// The worked cases of the sheet, of layouts and of cells come out as they should, by the definitions alone.
+pub fn cases_stand()
+    ensures { AllHold cases }
+{
+    layouts::laws::cases_stand();
 }
