@@ -6,7 +6,7 @@ use Rattle.sheet.specs.declared.refusal.CallName.{CallName}
 use Rattle.sheet.specs.CallLaws.{Passed, AllFit, CallLaws}
 use Rattle.sheet.specs.Calls.{name, target}
 use Rattle.sheet.specs.Checks.{worked_rows, limits}
-use Rattle.sheet.specs.Memory.{columns}
+use Rattle.sheet.specs.Memory.{cells_in}
 use Rattle.sheet.specs.NewColumns.{new_column}
 use Rattle.sheet.proofs.Checks.{passes, grants}
 use Rattle.sheet.proofs.FirstPast.{first_past}
@@ -28,7 +28,7 @@ call_laws laws = record {
   solution_solves = solution_row laws;
   solution_only = solution_only laws;
   stops_at = first_past;
-  granted_where = λ s call cells draft. let new = new_column s call (columns s cells) in let rows = worked_rows s call in (
+  granted_where = λ s call cells draft. let new = new_column s call (cells_in s cells) in let rows = worked_rows s call in (
     λ e. let p = passes s call cells draft e in (p.memory, p.checked, all_fit (name call) (target call) new rows p.limited),
     λ w. grants s call cells draft (record { memory = w.0; checked = w.1; limited = fit_all (name call) (target call) new rows w.2 }),
   );

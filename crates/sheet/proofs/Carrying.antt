@@ -9,8 +9,8 @@ use Rattle.sheet.specs.Answers.{Stage, filling, working, drafted, Ask, setting, 
 use Rattle.sheet.specs.Calls.{Call}
 use Rattle.sheet.specs.Checks.{Answer, granted, refused}
 use Rattle.sheet.specs.Histories.{GoesOnTo, StaysBeside, setting_outcome, Histories}
-use Rattle.sheet.specs.Outcomes.{Outcome, outcome, shape_or, opened, answer_of, begun, called, closed, Opens}
-use Rattle.sheet.specs.Runs.{Event, told, Ran, opened as ran_opened, turned_away}
+use Rattle.sheet.specs.Outcomes.{Outcome, outcome, shape_or, answered_open, answer_of, answered_begin, answered_call, answered_close, Opens}
+use Rattle.sheet.specs.Runs.{Event, told, Ran, opened, turned_away}
 use Rattle.sheet.proofs.Answering.{OfCall, only_calls}
 use Rattle.sheet.proofs.GoingOn.{going_on}
 
@@ -79,16 +79,16 @@ module _ (s : Shape) (stage : Stage) (ask : Ask) (t : Takes stage ask) (others o
 begins_run : (s : Shape) (cells draft : List Record) (result : Result Filling Refusal) (cells' draft' : List Record) → Opens s cells draft result cells' draft' → IfOk result (λ f. Ran f.shape [] filling cells' draft')
 begins_run s cells draft result cells' draft' o = go result (open_answer s cells draft) refl o.answers o.leaves_cells o.leaves_draft
   where
-    go : (result : Result Filling Refusal) (a : Answer) → open_answer s cells draft ≡ a → opened result ≡ shape_or s a → cells' ≡ cells_opened s cells a → draft' ≡ draft_opened s draft a → IfOk result (λ f. Ran f.shape [] filling cells' draft')
+    go : (result : Result Filling Refusal) (a : Answer) → open_answer s cells draft ≡ a → answered_open result ≡ shape_or s a → cells' ≡ cells_opened s cells a → draft' ≡ draft_opened s draft a → IfOk result (λ f. Ran f.shape [] filling cells' draft')
     go (Ok f) granted e x y z =
         let R : Shape → List Record → List Record → Type 0 = λ s c d. Ran s [] filling c d in
-        subst (λ s. R s cells' draft') (sym (ok_shape x)) (subst (λ c. R s c draft') (sym y) (subst (λ d. R s (cells_opened s cells granted) d) (sym z) (ran_opened cells draft e)))
+        subst (λ s. R s cells' draft') (sym (ok_shape x)) (subst (λ c. R s c draft') (sym y) (subst (λ d. R s (cells_opened s cells granted) d) (sym z) (opened cells draft e)))
       where
         shape_in : Result Shape Refusal → Shape
         shape_in (Ok s) = s
         shape_in (Err r) = s
 
-        ok_shape : opened (Ok f) ≡ shape_or s granted → f.shape ≡ s
+        ok_shape : answered_open (Ok f) ≡ shape_or s granted → f.shape ≡ s
         ok_shape e = ap shape_in e
     go (Ok f) (refused r) e x y z = absurd (subst is_ok x tt)
       where
@@ -107,23 +107,23 @@ histories = record {
       (c.leaves_cells ∙ set_cells s k row lower upper cells [] draft a)
       (set_draft s cells draft k row lower upper);
   begin_goes_on = λ s cells result c h draft.
-      carried s h filling beginning begins cells draft (begun result) cells draft c.answers (sym ((unwritten s filling cells draft (begin_answer s cells)).1)) (begin_draft s cells draft);
+      carried s h filling beginning begins cells draft (answered_begin result) cells draft c.answers (sym ((unwritten s filling cells draft (begin_answer s cells)).1)) (begin_draft s cells draft);
   call_goes_on = λ s call cells draft result draft' c h.
-      carried s h working (calling call) calls cells draft (called result) cells draft' c.answers (sym ((unwritten s working cells draft (call_answer s call cells draft)).0 call)) c.leaves_draft;
+      carried s h working (calling call) calls cells draft (answered_call result) cells draft' c.answers (sym ((unwritten s working cells draft (call_answer s call cells draft)).0 call)) c.leaves_draft;
   post_goes_on = λ s k cells draft result cells' draft' c h.
-      carried s h (drafted k) posting posts cells draft (closed result) cells' draft' c.answers c.leaves_cells c.leaves_draft;
+      carried s h (drafted k) posting posts cells draft (answered_close result) cells' draft' c.answers c.leaves_cells c.leaves_draft;
   withdraw_goes_on = λ s k cells draft result draft' c h.
-      carried s h (drafted k) withdrawing withdraws cells draft (closed result) cells draft' c.answers (sym ((unwritten s (drafted k) cells draft (answer s (drafted k) withdrawing cells draft)).2)) c.leaves_draft;
+      carried s h (drafted k) withdrawing withdraws cells draft (answered_close result) cells draft' c.answers (sym ((unwritten s (drafted k) cells draft (answer s (drafted k) withdrawing cells draft)).2)) c.leaves_draft;
   set_aside = λ s k row lower upper others result others' c draft.
       kept_aside s filling (setting k row lower upper) sets others draft (answer_of result) others' draft c.answers
       (c.leaves_cells ∙ set_cells s k row lower upper others [] draft (set_answer s k row lower upper others)) (set_draft s others draft k row lower upper);
   begin_aside = λ s others result c draft.
-      kept_aside s filling beginning begins others draft (begun result).answer others draft (ap (λ (o : Outcome). o.answer) c.answers) (sym ((unwritten s filling others draft (begin_answer s others)).1)) (begin_draft s others draft);
+      kept_aside s filling beginning begins others draft (answered_begin result).answer others draft (ap (λ (o : Outcome). o.answer) c.answers) (sym ((unwritten s filling others draft (begin_answer s others)).1)) (begin_draft s others draft);
   call_aside = λ s call others other_draft result other_draft' c.
-      kept_aside s working (calling call) calls others other_draft (called result).answer others other_draft' (ap (λ (o : Outcome). o.answer) c.answers) (sym ((unwritten s working others other_draft (call_answer s call others other_draft)).0 call)) c.leaves_draft;
+      kept_aside s working (calling call) calls others other_draft (answered_call result).answer others other_draft' (ap (λ (o : Outcome). o.answer) c.answers) (sym ((unwritten s working others other_draft (call_answer s call others other_draft)).0 call)) c.leaves_draft;
   post_aside = λ s k others other_draft result others' other_draft' c.
-      kept_aside s (drafted k) posting posts others other_draft (closed result).answer others' other_draft' (ap (λ (o : Outcome). o.answer) c.answers) c.leaves_cells c.leaves_draft;
+      kept_aside s (drafted k) posting posts others other_draft (answered_close result).answer others' other_draft' (ap (λ (o : Outcome). o.answer) c.answers) c.leaves_cells c.leaves_draft;
   withdraw_aside = λ s k others other_draft result other_draft' c.
-      kept_aside s (drafted k) withdrawing withdraws others other_draft (closed result).answer others other_draft' (ap (λ (o : Outcome). o.answer) c.answers)
+      kept_aside s (drafted k) withdrawing withdraws others other_draft (answered_close result).answer others other_draft' (ap (λ (o : Outcome). o.answer) c.answers)
       (sym ((unwritten s (drafted k) others other_draft (answer s (drafted k) withdrawing others other_draft)).2)) c.leaves_draft;
 }

@@ -15,7 +15,7 @@ use Rattle.sheet.specs.Answers.{call_answer, empties_draft}
 use Rattle.sheet.specs.CallLaws.{Passed, Fits, PastAt, FirstPast, StopsAt}
 use Rattle.sheet.specs.Calls.{Call, dot, sum, blend, product, solve, join, copy, permute, name, target}
 use Rattle.sheet.specs.Checks.{Check, check, Answer, granted, refused, first_refusal, divides, checks, worked_rows, lower_fits, upper_fits, past, limits}
-use Rattle.sheet.specs.Memory.{has_both, columns}
+use Rattle.sheet.specs.Memory.{has_both, cells_in}
 use Rattle.sheet.specs.NewColumns.{new_column}
 use Rattle.sheet.specs.Refusals.{row_of, bound_of}
 use Rattle.sheet.proofs.Checks.{passed_all}
@@ -107,7 +107,7 @@ passed_early (check false refusal' ∷ rest) then refusal l z e = absurd (false�
 pub first_past : (s : Shape) (call : Call) (cells draft : List Record) (row : ℕ) (bound : Bound) → (call_answer s call cells draft ≡ refused (past (name call) (target call) row bound)) ↔ StopsAt s call cells draft row bound
 unfolding call_answer
 first_past s call cells draft row bound =
-    let new = new_column s call (columns s cells) in let rows = worked_rows s call in
+    let new = new_column s call (cells_in s cells) in let rows = worked_rows s call in
     let list = check (has_both s cells draft) (WrongLength (name call) (target call)) ∷ checks s call in
     let refusal = past (name call) (target call) row bound in
     let then = first_refusal (limits (name call) (target call) new rows) granted in (

@@ -14,7 +14,7 @@ use Rattle.sheet.specs.declared.shape.Shape.{Shape}
 use Rattle.sheet.specs.Answers.{call_answer}
 use Rattle.sheet.specs.Calls.{Call, name, target}
 use Rattle.sheet.specs.Checks.{Check, check, granted, refused, checks, worked_rows, lower_fits, upper_fits, past}
-use Rattle.sheet.specs.Memory.{has_both, columns}
+use Rattle.sheet.specs.Memory.{has_both, cells_in}
 use Rattle.sheet.specs.NewColumns.{solution, new_column}
 
 -- every check of a list passes
@@ -48,7 +48,7 @@ pub record FirstPast (new : ℕ → Value) (rows : List ℕ) (row : ℕ) (bound 
 pub record StopsAt (s : Shape) (call : Call) (cells draft : List Record) (row : ℕ) (bound : Bound) : Type 0 where
   pub memory : has_both s cells draft ≡ true
   pub checked : Passed (checks s call)
-  pub first : FirstPast (new_column s call (columns s cells)) (worked_rows s call) row bound
+  pub first : FirstPast (new_column s call (cells_in s cells)) (worked_rows s call) row bound
 
 -- each row of the column z is z_i = (alpha·x_i − Σ m_ij·z_j)/m_ii over the rows j solved before
 abbrev pub Solves : Side → Matrix → (alpha : Value) (x z : ℕ → Value) → Type 0
@@ -63,4 +63,4 @@ pub record CallLaws : Type 0 where
   -- refusal 10 names the first bound, in working order, that is beyond the limit, and is given nowhere else
   pub stops_at : (s : Shape) (call : Call) (cells draft : List Record) (row : ℕ) (bound : Bound) → (call_answer s call cells draft ≡ refused (past (name call) (target call) row bound)) ↔ StopsAt s call cells draft row bound
   -- a call is granted exactly where its memory is as it should be, every check passes, and every worked-out cell fits
-  pub granted_where : (s : Shape) (call : Call) (cells draft : List Record) → (call_answer s call cells draft ≡ granted) ↔ ((has_both s cells draft ≡ true) × Passed (checks s call) × AllFit (new_column s call (columns s cells)) (worked_rows s call))
+  pub granted_where : (s : Shape) (call : Call) (cells draft : List Record) → (call_answer s call cells draft ≡ granted) ↔ ((has_both s cells draft ≡ true) × Passed (checks s call) × AllFit (new_column s call (cells_in s cells)) (worked_rows s call))

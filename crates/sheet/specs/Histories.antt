@@ -13,7 +13,7 @@ use Rattle.sheet.specs.declared.states.Working.{Working}
 use Rattle.sheet.specs.Answers.{Stage, filling, working, drafted, Ask, setting, beginning, calling, posting, withdrawing, empties_draft}
 use Rattle.sheet.specs.Calls.{Call}
 use Rattle.sheet.specs.Checks.{Answer, refused}
-use Rattle.sheet.specs.Outcomes.{Outcome, answer_of, begun, called, closed, Opens, Sets, Begins, Calls, Posts, Withdraws}
+use Rattle.sheet.specs.Outcomes.{Outcome, answer_of, answered_begin, answered_call, answered_close, Opens, Sets, Begins, Calls, Posts, Withdraws}
 use Rattle.sheet.specs.Runs.{Event, told, Ran}
 
 -- a run goes on with an ask over the memory that it holds, to the outcome and to the memory that is left
@@ -35,21 +35,21 @@ pub record Histories : Type 0 where
   pub set_goes_on : (s : Shape) (k row : ℕ) (lower upper : ℤ) (cells : List Record) (result : Result (Unit {0}) Refusal) (cells' : List Record) → Sets s k row lower upper cells result cells'
       → (h : List Event) (draft : List Record) → GoesOnTo s h filling (setting k row lower upper) cells draft (setting_outcome s (answer_of result)) cells' draft
   pub begin_goes_on : (s : Shape) (cells : List Record) (result : Result Working NotBegun) → Begins s cells result
-      → (h : List Event) (draft : List Record) → GoesOnTo s h filling beginning cells draft (begun result) cells draft
+      → (h : List Event) (draft : List Record) → GoesOnTo s h filling beginning cells draft (answered_begin result) cells draft
   pub call_goes_on : (s : Shape) (call : Call) (cells draft : List Record) (result : Result Drafted Refused) (draft' : List Record) → Calls s call cells draft result draft'
-      → (h : List Event) → GoesOnTo s h working (calling call) cells draft (called result) cells draft'
+      → (h : List Event) → GoesOnTo s h working (calling call) cells draft (answered_call result) cells draft'
   pub post_goes_on : (s : Shape) (k : ℕ) (cells draft : List Record) (result : Result Working StillDrafted) (cells' draft' : List Record) → Posts s k cells draft result cells' draft'
-      → (h : List Event) → GoesOnTo s h (drafted k) posting cells draft (closed result) cells' draft'
+      → (h : List Event) → GoesOnTo s h (drafted k) posting cells draft (answered_close result) cells' draft'
   pub withdraw_goes_on : (s : Shape) (k : ℕ) (cells draft : List Record) (result : Result Working StillDrafted) (draft' : List Record) → Withdraws s k cells draft result draft'
-      → (h : List Event) → GoesOnTo s h (drafted k) withdrawing cells draft (closed result) cells draft'
+      → (h : List Event) → GoesOnTo s h (drafted k) withdrawing cells draft (answered_close result) cells draft'
   -- over other memory
   pub set_aside : (s : Shape) (k row : ℕ) (lower upper : ℤ) (others : List Record) (result : Result (Unit {0}) Refusal) (others' : List Record) → Sets s k row lower upper others result others'
       → (draft : List Record) → StaysBeside s filling (setting k row lower upper) others draft (answer_of result) others' draft
   pub begin_aside : (s : Shape) (others : List Record) (result : Result Working NotBegun) → Begins s others result
-      → (draft : List Record) → StaysBeside s filling beginning others draft (begun result).answer others draft
+      → (draft : List Record) → StaysBeside s filling beginning others draft (answered_begin result).answer others draft
   pub call_aside : (s : Shape) (call : Call) (others other_draft : List Record) (result : Result Drafted Refused) (other_draft' : List Record) → Calls s call others other_draft result other_draft'
-      → StaysBeside s working (calling call) others other_draft (called result).answer others other_draft'
+      → StaysBeside s working (calling call) others other_draft (answered_call result).answer others other_draft'
   pub post_aside : (s : Shape) (k : ℕ) (others other_draft : List Record) (result : Result Working StillDrafted) (others' other_draft' : List Record) → Posts s k others other_draft result others' other_draft'
-      → StaysBeside s (drafted k) posting others other_draft (closed result).answer others' other_draft'
+      → StaysBeside s (drafted k) posting others other_draft (answered_close result).answer others' other_draft'
   pub withdraw_aside : (s : Shape) (k : ℕ) (others other_draft : List Record) (result : Result Working StillDrafted) (other_draft' : List Record) → Withdraws s k others other_draft result other_draft'
-      → StaysBeside s (drafted k) withdrawing others other_draft (closed result).answer others other_draft'
+      → StaysBeside s (drafted k) withdrawing others other_draft (answered_close result).answer others other_draft'

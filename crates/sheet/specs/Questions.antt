@@ -9,7 +9,7 @@ use Rattle.sheet.specs.declared.refusal.Refusal.TheVariants.{WrongLength}
 use Rattle.sheet.specs.declared.shape.Shape.{Shape}
 use Rattle.sheet.specs.Checks.{Check, check, column_named, row_named}
 use Rattle.sheet.specs.ColumnQuestions.{one_norm_of, infinity_norm_of, largest_of, smallest_of, enclosed_in}
-use Rattle.sheet.specs.Memory.{has_cells, column, columns}
+use Rattle.sheet.specs.Memory.{has_cells, column, cells_in}
 
 -- the refusal of the first check that does not pass
 abbrev pub first_failed : List Check → Option Refusal
@@ -39,10 +39,10 @@ abbrev pub smallest_answer : Shape → (cells : List Record) (k : ℕ) → Resul
 smallest_answer s cells k = asked_unless (first_failed (first_column s Smallest cells k [])) (smallest_of (column s cells k))
 
 abbrev pub width_answer : Shape → (cells : List Record) (k row : ℕ) → Result (Option ℤ) Refusal
-width_answer s cells k row = asked_unless (first_failed (first_column s Width cells k (row_named s Width k row ∷ []))) (width_of (columns s cells k row))
+width_answer s cells k row = asked_unless (first_failed (first_column s Width cells k (row_named s Width k row ∷ []))) (width_of (cells_in s cells k row))
 
 abbrev pub middle_answer : Shape → (cells : List Record) (k row : ℕ) → Result (Option ℤ) Refusal
-middle_answer s cells k row = asked_unless (first_failed (first_column s Middle cells k (row_named s Middle k row ∷ []))) (middle_of (columns s cells k row))
+middle_answer s cells k row = asked_unless (first_failed (first_column s Middle cells k (row_named s Middle k row ∷ []))) (middle_of (cells_in s cells k row))
 
 -- whether each cell of column k is inside the one of column x
 abbrev pub enclosed_answer : Shape → (cells : List Record) (k x : ℕ) → Result Bool Refusal

@@ -2,7 +2,7 @@
 ghost use Rattle.std.specs.Prelude.{◌≡◌, ◌<◌, true, [], ◌∷◌, Some, None, MatchResult};
 ghost use Rattle.cells.specs.Cells.{cell_value};
 ghost use Rattle.sheet.specs.Checks.{row_named};
-ghost use Rattle.sheet.specs.Memory.{has_cells, column, columns};
+ghost use Rattle.sheet.specs.Memory.{has_cells, column, cells_in};
 ghost use Rattle.sheet.specs.Questions.{first_failed, first_column, one_norm_answer, infinity_norm_answer, largest_answer, smallest_answer, width_answer, middle_answer, enclosed_answer};
 ghost use Rattle.sheet.specs.Shapes.{Legal};
 
@@ -35,7 +35,7 @@ impl Questions {
     }
 
     fn cell(self, call: CallName, k: usize, row: usize, cells: &[Record]) -> Result<Cell, Refusal>
-        ensures { MatchResult result (λ c. (has_cells self.shape cells.now ≡ true) × (k < self.shape.columns) × (row < self.shape.rows) × (cell_value c ≡ columns self.shape cells.now k row)) (λ r. first_failed (first_column self.shape call cells.now k (row_named self.shape call k row ∷ [])) ≡ Some r) }
+        ensures { MatchResult result (λ c. (has_cells self.shape cells.now ≡ true) × (k < self.shape.columns) × (row < self.shape.rows) × (cell_value c ≡ cells_in self.shape cells.now k row)) (λ r. first_failed (first_column self.shape call cells.now k (row_named self.shape call k row ∷ [])) ≡ Some r) }
     {
         let column = self.column(call, k, cells)?;
         if row >= self.shape.rows {

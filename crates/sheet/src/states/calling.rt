@@ -4,9 +4,9 @@ ghost use Rattle.sheet.specs.Answers.{working, drafted, calling, check_answer, c
 ghost use Rattle.cells.specs.Worked.{sum_at};
 ghost use Rattle.sheet.specs.Calls.{sum, join, copy, permute};
 ghost use Rattle.sheet.specs.Checks.{granted, refused, check, first_refusal, column_named};
-ghost use Rattle.sheet.specs.Memory.{has_cells, has_both, column, columns, written_rows};
+ghost use Rattle.sheet.specs.Memory.{has_cells, has_both, column, cells_in, written_rows};
 ghost use Rattle.sheet.specs.NewColumns.{new_column};
-ghost use Rattle.sheet.specs.Outcomes.{answer_of, called, Calls, Drafts};
+ghost use Rattle.sheet.specs.Outcomes.{answer_of, answered_call, Calls, Drafts};
 ghost use Rattle.sheet.specs.Faults.{in_call};
 ghost use Rattle.sheet.specs.declared.refusal.CallName.TheVariants.{Sum};
 ghost use Rattle.sheet.specs.declared.refusal.Refusal.TheVariants.{WrongLength, NoSuchColumn, NoSuchRow};
@@ -25,7 +25,7 @@ impl Working {
     // What became of a call on column k: the draft stands for it, or the sheet is handed back.
     fn drafted(self, k: usize, came: Result<(), Refusal>) -> Result<Drafted, Refused>
         requires { IfOk came (λ u. k < self.shape.columns) }
-        ensures { MatchResult came (λ u. called result ≡ record { answer = granted; stage = drafted k; shape = self.shape }) (λ r. called result ≡ record { answer = refused r; stage = working; shape = self.shape }) }
+        ensures { MatchResult came (λ u. answered_call result ≡ record { answer = granted; stage = drafted k; shape = self.shape }) (λ r. answered_call result ≡ record { answer = refused r; stage = working; shape = self.shape }) }
     {
         match came {
             Ok(()) => Ok(Drafted {
@@ -76,7 +76,7 @@ impl Working {
     fn write_cell(&self, k: usize, i: usize, record: Record, cells: &[Record], draft: &mut [Record])
         requires lengths { has_both self.now.shape cells.now draft.old ≡ true }
         requires named { (k < self.now.shape.columns) × (i < self.now.shape.rows) }
-        ensures { draft.new ≡ slice_set (written_rows self.now.shape.rows (columns self.now.shape cells.now k)) i «record» }
+        ensures { draft.new ≡ slice_set (written_rows self.now.shape.rows (cells_in self.now.shape cells.now k)) i «record» }
     {
         let column = self.shape.column(cells, k);
         write_rows(&Copied { column }, draft);
@@ -117,7 +117,7 @@ impl Working {
     )
         requires lengths { has_both self.now.shape cells.now draft.old ≡ true }
         requires named { (k < self.now.shape.columns) × (x < self.now.shape.columns) }
-        ensures { draft.new ≡ written_rows self.now.shape.rows (new_column self.now.shape (join k x (R.JoinRule.rule rule.now)) (columns self.now.shape cells.now)) }
+        ensures { draft.new ≡ written_rows self.now.shape.rows (new_column self.now.shape (join k x (R.JoinRule.rule rule.now)) (cells_in self.now.shape cells.now)) }
     {
         let joined = Joined {
             rule,
