@@ -3,6 +3,7 @@
 ghost use Rattle.cells.specs.Cases.{AllHold};
 ghost use Rattle.sheet.specs.CallLaws.{CallLaws};
 ghost use Rattle.sheet.specs.Cases.{cases};
+ghost use Rattle.sheet.specs.ColumnLaws.{ColumnLaws};
 ghost use Rattle.sheet.specs.Histories.{Histories};
 ghost use Rattle.sheet.specs.Promises.{Promises};
 
@@ -26,6 +27,11 @@ pub fn calls_stand()
 {
     layouts::laws::laws_stand();
 }
+
+// What the questions about a column answer, row by row, of every column.
+pub fn questions_stand()
+    ensures { ColumnLaws }
+{}
 
 // The worked cases of the sheet, of layouts and of cells come out as they should, by the definitions alone.
 pub fn cases_stand()

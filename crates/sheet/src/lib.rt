@@ -1,7 +1,7 @@
 // The sheet: columns of cells in supplied memory, the calls that work on them through a draft, and what every list of calls keeps.
 #![tactic(auto)]
 
-pub mod column;
+mod column;
 pub mod laws;
 mod memory;
 mod new_columns;
