@@ -13,20 +13,17 @@ use Rattle.cells.specs.declared.cell.Record.{Record}
 use Rattle.cells.specs.Cells.{IsCell}
 use Rattle.cells.specs.Quotients.{zero_in}
 use Rattle.layouts.specs.Matrix.{Matrix}
+use Rattle.sheet.specs.CallLaws.{Passed, Fits, AllFit}
 use Rattle.sheet.specs.declared.refusal.CallName.{CallName}
 use Rattle.sheet.specs.declared.refusal.Refusal.TheVariants.{WrongLength}
 use Rattle.sheet.specs.declared.shape.Shape.{Shape}
 use Rattle.sheet.specs.Answers.{call_answer}
 use Rattle.sheet.specs.Calls.{Call, name, target}
 use Rattle.sheet.specs.Checks.{Check, check, Answer, granted, first_refusal, divides, checks, worked_rows, lower_fits, upper_fits, limits}
-use Rattle.sheet.specs.Memory.{has_both, columns}
+use Rattle.sheet.specs.Memory.{has_both, cells_in}
 use Rattle.sheet.specs.NewColumns.{new_column}
 
 -- ---- any list of checks
-abbrev pub Passed : List Check → Type 0
-Passed [] = Unit {0}
-Passed (check passes refusal ∷ rest) = (passes ≡ true) × Passed rest
-
 pub all_passed : (list : List Check) (then : Answer) → first_refusal list then ≡ granted → Passed list × (then ≡ granted)
 all_passed [] then e = (tt, e)
 all_passed (check true refusal ∷ rest) then e = let p = all_passed rest then e in ((refl, p.0), p.1)
@@ -41,25 +38,22 @@ passed_all (check false refusal ∷ rest) then p = cc
 pub record Passes (s : Shape) (call : Call) (cells draft : List Record) : Type 0 where
   pub memory : has_both s cells draft ≡ true
   pub checked : Passed (checks s call)
-  pub limited : Passed (limits (name call) (target call) (new_column s call (columns s cells)) (worked_rows s call))
+  pub limited : Passed (limits (name call) (target call) (new_column s call (cells_in s cells)) (worked_rows s call))
 
 pub passes : (s : Shape) (call : Call) (cells draft : List Record) → call_answer s call cells draft ≡ granted → Passes s call cells draft
 unfolding call_answer
 passes s call cells draft e =
     let p = all_passed (check (has_both s cells draft) (WrongLength (name call) (target call)) ∷ checks s call) _ e in
-    let q = all_passed (limits (name call) (target call) (new_column s call (columns s cells)) (worked_rows s call)) granted p.1 in
+    let q = all_passed (limits (name call) (target call) (new_column s call (cells_in s cells)) (worked_rows s call)) granted p.1 in
     record { memory = p.0.0; checked = p.0.1; limited = q.0 }
 
 pub grants : (s : Shape) (call : Call) (cells draft : List Record) → Passes s call cells draft → call_answer s call cells draft ≡ granted
 unfolding call_answer
 grants s call cells draft p =
     passed_all (check (has_both s cells draft) (WrongLength (name call) (target call)) ∷ checks s call) _ (p.memory, p.checked)
-    ∙ passed_all (limits (name call) (target call) (new_column s call (columns s cells)) (worked_rows s call)) granted p.limited
+    ∙ passed_all (limits (name call) (target call) (new_column s call (cells_in s cells)) (worked_rows s call)) granted p.limited
 
 -- ---- the limit of a bound
-abbrev pub Fits : Value → Type 0
-Fits c = (lower_fits c ≡ true) × (upper_fits c ≡ true)
-
 pub limits_fit : (call : CallName) (k : ℕ) (new : ℕ → Value) (rows : List ℕ) → Passed (limits call k new rows) → All (λ row. Fits (new row)) rows
 limits_fit call k new [] p = All-nil (λ row. Fits (new row))
 limits_fit call k new (row ∷ rows) p = All-cons (λ row. Fits (new row)) row rows (p.0, p.1.0) (limits_fit call k new rows p.1.1)

@@ -10,7 +10,7 @@ use Rattle.cells.specs.declared.cell.Record.{Record}
 use Rattle.cells.specs.Cells.{IsCell, blank, written, read_as, cell_at}
 use Rattle.cells.specs.Laws.{Laws}
 use Rattle.sheet.specs.declared.shape.Shape.{Shape}
-use Rattle.sheet.specs.Memory.{columns, blanks, written_rows, with_column}
+use Rattle.sheet.specs.Memory.{cells_in, blanks, written_rows, with_column}
 
 -- ---- what was written for a run of rows
 
@@ -26,10 +26,10 @@ blanks_size n = length-replicate n blank
 -- ---- columns
 
 -- the cell at a row of column k stands k·n places on
-pub at_place : (s : Shape) (cells : List Record) (k row : ℕ) → row < s.rows → columns s cells k row ≡ read_as (get_or cells (k * s.rows + row) blank)
+pub at_place : (s : Shape) (cells : List Record) (k row : ℕ) → row < s.rows → cells_in s cells k row ≡ read_as (get_or cells (k * s.rows + row) blank)
 at_place s cells k row h = ap read_as (get_or-take s.rows (drop (k * s.rows) cells) row blank h ∙ get_or-drop (k * s.rows) cells row blank)
 
-pub opened_empty : (s : Shape) (k row : ℕ) → k < s.columns → row < s.rows → columns s (blanks (s.rows * s.columns)) k row ≡ empty
+pub opened_empty : (s : Shape) (k row : ℕ) → k < s.columns → row < s.rows → cells_in s (blanks (s.rows * s.columns)) k row ≡ empty
 opened_empty s k row h g =
     at_place s (blanks (s.rows * s.columns)) k row g
     ∙ ap read_as (get_or-replicate (s.rows * s.columns) (k * s.rows + row) blank blank (mul-add-lt k s.rows row s.columns h g))
@@ -40,13 +40,13 @@ pub set_size : (cells : List Record) (place : ℕ) (r : Record) → length (slic
 set_size cells place r = length-set cells place r
 
 pub set_same : (s : Shape) (k i : ℕ) (cells : List Record) (r : Record) → k < s.columns → i < s.rows → length cells ≡ s.rows * s.columns
-    → columns s (slice_set cells (k * s.rows + i) r) k i ≡ read_as r
+    → cells_in s (slice_set cells (k * s.rows + i) r) k i ≡ read_as r
 set_same s k i cells r h g e =
     at_place s (slice_set cells (k * s.rows + i) r) k i g
     ∙ ap read_as (get_or-set_same cells (k * s.rows + i) r blank (omega (arith, e, mul-add-lt k s.rows i s.columns h g)))
 
 pub set_other : (s : Shape) (k i j row : ℕ) (cells : List Record) (r : Record) → i < s.rows → row < s.rows → ((j ≡ k) × (row ≡ i) → ⊥)
-    → columns s (slice_set cells (k * s.rows + i) r) j row ≡ columns s cells j row
+    → cells_in s (slice_set cells (k * s.rows + i) r) j row ≡ cells_in s cells j row
 set_other s k i j row cells r g h apart =
     at_place s (slice_set cells (k * s.rows + i) r) j row h
     ∙ (ap read_as (get_or-set_other cells (k * s.rows + i) (j * s.rows + row) r blank (λ e. apart (same_from_place j row k i s.rows h g e)))
@@ -76,7 +76,7 @@ module _ (s : Shape) (k : ℕ) (cells draft : List Record) (here : k < s.columns
       let rest = drop (k * s.rows + s.rows) cells in
       omega (arith, room, cells_size, draft_size, head_size, length-append (take (k * s.rows) cells) (draft ++ rest), length-append draft rest, length-drop (k * s.rows + s.rows) cells)
 
-  pub posted_same : (row : ℕ) → row < s.rows → columns s (with_column s k cells draft) k row ≡ cell_at draft row
+  pub posted_same : (row : ℕ) → row < s.rows → cells_in s (with_column s k cells draft) k row ≡ cell_at draft row
   posted_same row h =
       let rest = drop (k * s.rows + s.rows) cells in
       let back : k * s.rows + row - k * s.rows ≡ row = omega arith in
@@ -97,7 +97,7 @@ module _ (s : Shape) (k : ℕ) (cells draft : List Record) (here : k < s.columns
       ∙ (get_or-append_right draft rest s.rows (place - k * s.rows) blank draft_size (omega (arith, h))
       ∙ (get_or-drop (k * s.rows + s.rows) cells (place - k * s.rows - s.rows) blank ∙ ap (λ i. get_or cells i blank) on))
 
-  pub posted_other : (j row : ℕ) → j ≢ k → row < s.rows → columns s (with_column s k cells draft) j row ≡ columns s cells j row
+  pub posted_other : (j row : ℕ) → j ≢ k → row < s.rows → cells_in s (with_column s k cells draft) j row ≡ cells_in s cells j row
   posted_other j row other h =
       at_place s (with_column s k cells draft) j row h
       ∙ (ap read_as (kept_place (j * s.rows + row) (outside s.rows k j row other h)) ∙ sym (at_place s cells j row h))

@@ -12,7 +12,7 @@ use Rattle.sheet.specs.declared.shape.Shape.{Shape}
 use Rattle.sheet.specs.Answers.{Stage, filling, drafted, Ask, setting, beginning, calling, posting, withdrawing, sets, begins, calls, posts, withdraws}
 use Rattle.sheet.specs.Checks.{refused}
 use Rattle.sheet.specs.ExactRuns.{last_set, with_values, ExactRun, starts, drafts, posts as exact_posts, withdraws as exact_withdraws, stays}
-use Rattle.sheet.specs.Memory.{columns, with_column}
+use Rattle.sheet.specs.Memory.{cells_in, with_column}
 use Rattle.sheet.specs.NewColumns.{new_column}
 use Rattle.sheet.specs.Promises.{ColumnsHold, DraftHolds}
 use Rattle.sheet.specs.Runs.{Event, told, Ran, opened, went_on, lost_draft, turned_away}
@@ -43,20 +43,20 @@ same_column e = cc
 
 module _ (laws : Laws) (s : Shape) (owes : Owes s) where
   set_at : (k i : ℕ) (lower upper : ℤ) (cells : List Record) → SetGranted s k i lower upper cells → (j row : ℕ) → row < s.rows
-      → columns s (slice_set cells (k * s.rows + i) (written (bounds lower upper))) j row ≡ cond (j == k && row == i) (bounds lower upper) (columns s cells j row)
+      → cells_in s (slice_set cells (k * s.rows + i) (written (bounds lower upper))) j row ≡ cond (j == k && row == i) (bounds lower upper) (cells_in s cells j row)
   set_at k i lower upper cells ok j row h = go (cases_eq j k) (cases_eq row i)
     where
       r : Record
       r = written (bounds lower upper)
 
-      go : (j ≡ k) ⊎ (j ≢ k) → (row ≡ i) ⊎ (row ≢ i) → columns s (slice_set cells (k * s.rows + i) r) j row ≡ cond (j == k && row == i) (bounds lower upper) (columns s cells j row)
+      go : (j ≡ k) ⊎ (j ≢ k) → (row ≡ i) ⊎ (row ≢ i) → cells_in s (slice_set cells (k * s.rows + i) r) j row ≡ cond (j == k && row == i) (bounds lower upper) (cells_in s cells j row)
       go (inl a) (inl b) = rw (a, b, eq-eqb k k refl, eq-eqb i i refl) (set_same s k i cells r ok.column ok.row ok.sized ∙ laws.read_written (bounds lower upper) ok.cell)
       go (inl a) (inr b) = rw (eq-eqb j k a, ne_eqb row i b) (set_other s k i j row cells r ok.row h (λ p. b p.1))
       go (inr a) b = rw (ne_eqb j k a) (set_other s k i j row cells r ok.row h (λ p. a p.0))
 
   -- while a sheet is filled, each cell is as the last granted set made it
   pub filled : {h : List Event} {stage : Stage} {cells draft : List Record} → Ran s h stage cells draft → stage ≡ filling
-      → (k row : ℕ) → k < s.columns → row < s.rows → columns s cells k row ≡ last_set h k row
+      → (k row : ℕ) → k < s.columns → row < s.rows → cells_in s cells k row ≡ last_set h k row
   filled (opened cells draft e) f k row a b = opened_empty s k row a b
   filled (went_on {cells} ask r (sets {k = k'} {i} {lower} {upper}) e) f k row a b =
       set_at k' i lower upper cells (set_granted s k' i lower upper cells e) k row b
@@ -72,7 +72,7 @@ module _ (laws : Laws) (s : Shape) (owes : Owes s) where
       → ColumnsHold s cells xs → ((row : ℕ) → row < s.rows → Holds s.scale (cell_at draft row) (ys row)) → ColumnsHold s (with_column s k cells draft) (with_values j ys xs)
   posted_holds j k cells draft xs ys same here size draft_size held_columns held_draft i row a b = go (cases_eq i k)
     where
-      go : (i ≡ k) ⊎ (i ≢ k) → Holds s.scale (columns s (with_column s k cells draft) i row) (with_values j ys xs i row)
+      go : (i ≡ k) ⊎ (i ≢ k) → Holds s.scale (cells_in s (with_column s k cells draft) i row) (with_values j ys xs i row)
       go (inl e) = rw (eq-eqb i j (e ∙ sym same), e, posted_same s k cells draft here size draft_size row b) (held_draft row b)
       go (inr n) = rw (ne_eqb i j (λ e. n (e ∙ same)), posted_other s k cells draft here size draft_size i row n b) (held_columns i row a b)
 
@@ -97,7 +97,7 @@ module _ (laws : Laws) (s : Shape) (owes : Owes s) where
       record {
         together = refl;
         columns_hold = before.columns_hold;
-        draft_holds = λ row b. subst (λ c. Holds s.scale c (new row)) (sym (read_back laws s.rows (new_column s call (columns s cells)) row b (owed.cell row b))) (owed.holds xs new choice before.columns_hold f row b);
+        draft_holds = λ row b. subst (λ c. Holds s.scale c (new row)) (sym (read_back laws s.rows (new_column s call (cells_in s cells)) row b (owed.cell row b))) (owed.holds xs new choice before.columns_hold f row b);
       }
   contained (went_on {cells} {draft} ask r (posts {k}) e) (exact_posts {xs} {ys} {k = j} x) =
       let before = contained r x in

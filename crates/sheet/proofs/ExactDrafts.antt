@@ -14,6 +14,7 @@ use Rattle.cells.specs.Rules.{Rule, Admitted}
 use Rattle.layouts.specs.declared.side.Side.{Side}
 use Rattle.layouts.specs.Laws.{Laws as LayoutLaws, SolvedBefore}
 use Rattle.layouts.specs.Rows.{solved_from, solved_count, SolveValues}
+use Rattle.sheet.specs.CallLaws.{Passed}
 use Rattle.sheet.specs.declared.shape.Shape.{Shape}
 use Rattle.sheet.specs.Calls.{Call, dot, sum, blend, product, solve, join, copy, permute, entry_of}
 use Rattle.sheet.specs.Checks.{checks}
@@ -21,7 +22,7 @@ use Rattle.sheet.specs.ExactRuns.{Choice, Follows}
 use Rattle.sheet.specs.Formulas.{Of, Where, Formula, Only, Gives, no_value, value}
 use Rattle.sheet.specs.NewColumns.{unrolled}
 use Rattle.sheet.specs.Promises.{CallTells}
-use Rattle.sheet.proofs.Checks.{Passed, cell_ordered}
+use Rattle.sheet.proofs.Checks.{cell_ordered}
 use Rattle.sheet.proofs.Solving.{unrolled_row}
 use Rattle.sheet.proofs.Tightness.{diagonal}
 

@@ -22,12 +22,12 @@ use Rattle.sheet.specs.declared.shape.Shape.{Shape}
 use Rattle.sheet.specs.Answers.{check_answer, call_answer}
 use Rattle.sheet.specs.Calls.{Call, sum, name, target}
 use Rattle.sheet.specs.Checks.{Answer, Check, check, granted, refused, first_refusal, checks, worked_rows, limits}
-use Rattle.sheet.specs.Memory.{has_both, column, columns, written_rows}
+use Rattle.sheet.specs.Memory.{has_both, column, cells_in, written_rows}
 use Rattle.sheet.specs.NewColumns.{new_column}
 
 pub answer_opened : (s : Shape) (call : Call) (cells draft : List Record) → call_answer s call cells draft
     ≡ first_refusal (check (has_both s cells draft) (WrongLength (name call) (target call)) ∷ checks s call)
-    (first_refusal (limits (name call) (target call) (new_column s call (columns s cells)) (worked_rows s call)) granted)
+    (first_refusal (limits (name call) (target call) (new_column s call (cells_in s cells)) (worked_rows s call)) granted)
 unfolding call_answer
 answer_opened s call cells draft = refl
 
@@ -46,7 +46,7 @@ module _ (s : Shape) (call : Call) (cells draft : List Record) where
   all = check (has_both s cells draft) (WrongLength (name call) (target call)) ∷ checks s call
 
   abbrev last : Answer
-  last = first_refusal (limits (name call) (target call) (new_column s call (columns s cells)) (worked_rows s call)) granted
+  last = first_refusal (limits (name call) (target call) (new_column s call (cells_in s cells)) (worked_rows s call)) granted
 
   pub answer_stopped : (r : Refusal) → check_answer s call cells draft ≡ refused r → call_answer s call cells draft ≡ refused r
   unfolding call_answer
@@ -125,13 +125,13 @@ lifted_lowered call k i (Err f) = refl
 
 module _ (s : Shape) (k i x : ℕ) (cells draft : List Record) where
   abbrev of_column : Result Record RoundingFault
-  of_column = kept (sum_cell (columns s cells x) s.rows)
+  of_column = kept (sum_cell (cells_in s cells x) s.rows)
 
   summed : check_answer s (sum k i x) cells draft ≡ granted → call_answer s (sum k i x) cells draft ≡ fault_answer (in_call Sum k (in_row i of_column))
   summed passed =
       answer_passed s (sum k i x) cells draft passed
-      ∙ one_row Sum k i (new_column s (sum k i x) (columns s cells))
-      ∙ ap (λ (b : Bool). kept_answer Sum k i (kept (cond b (sum_cell (columns s cells x) s.rows) (columns s cells k i)))) (eq-eqb i i refl)
+      ∙ one_row Sum k i (new_column s (sum k i x) (cells_in s cells))
+      ∙ ap (λ (b : Bool). kept_answer Sum k i (kept (cond b (sum_cell (cells_in s cells x) s.rows) (cells_in s cells k i)))) (eq-eqb i i refl)
       ∙ lifted_answer Sum k i of_column
 
   pub sum_past : (f : SheetFault) → check_answer s (sum k i x) cells draft ≡ granted → in_call Sum k (sum_at i (column s cells x) s.rows) ≡ Err f → call_answer s (sum k i x) cells draft ≡ refused (BeyondLimit f)
@@ -141,7 +141,7 @@ module _ (s : Shape) (k i x : ℕ) (cells draft : List Record) where
   sum_granted r passed e = summed passed ∙ ap fault_answer e
 
   pub sum_written : (r : Record) → in_call Sum k (sum_at i (column s cells x) s.rows) ≡ Ok r
-      → slice_set (written_rows s.rows (columns s cells k)) i r ≡ written_rows s.rows (new_column s (sum k i x) (columns s cells))
+      → slice_set (written_rows s.rows (cells_in s cells k)) i r ≡ written_rows s.rows (new_column s (sum k i x) (cells_in s cells))
   sum_written r e =
-      ap (slice_set (written_rows s.rows (columns s cells k)) i) (kept_written (sum_cell (columns s cells x) s.rows) r (lifted_lowered Sum k i of_column ∙ ap lowered e))
-      ∙ one_written s.rows i (columns s cells k) (sum_cell (columns s cells x) s.rows)
+      ap (slice_set (written_rows s.rows (cells_in s cells k)) i) (kept_written (sum_cell (cells_in s cells x) s.rows) r (lifted_lowered Sum k i of_column ∙ ap lowered e))
+      ∙ one_written s.rows i (cells_in s cells k) (sum_cell (cells_in s cells x) s.rows)

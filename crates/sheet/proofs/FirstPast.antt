@@ -12,25 +12,13 @@ use Rattle.sheet.specs.declared.refusal.Refusal.{Refusal}
 use Rattle.sheet.specs.declared.refusal.Refusal.TheVariants.{WrongLength}
 use Rattle.sheet.specs.declared.shape.Shape.{Shape}
 use Rattle.sheet.specs.Answers.{call_answer, empties_draft}
+use Rattle.sheet.specs.CallLaws.{Passed, Fits, PastAt, FirstPast, StopsAt}
 use Rattle.sheet.specs.Calls.{Call, dot, sum, blend, product, solve, join, copy, permute, name, target}
 use Rattle.sheet.specs.Checks.{Check, check, Answer, granted, refused, first_refusal, divides, checks, worked_rows, lower_fits, upper_fits, past, limits}
-use Rattle.sheet.specs.Memory.{has_both, columns}
+use Rattle.sheet.specs.Memory.{has_both, cells_in}
 use Rattle.sheet.specs.NewColumns.{new_column}
 use Rattle.sheet.specs.Refusals.{row_of, bound_of}
-use Rattle.sheet.proofs.Checks.{Passed, passed_all, Fits}
-
--- the bound of the cell is beyond the limit, of two such bounds the lower
-abbrev pub PastAt : Value → Bound → Type 0
-PastAt c Lower = lower_fits c ≡ false
-PastAt c Upper = (lower_fits c ≡ true) × (upper_fits c ≡ false)
-
--- of the new cells at the rows, it is this bound at this row that is beyond the limit first
-pub record FirstPast (new : ℕ → Value) (rows : List ℕ) (row : ℕ) (bound : Bound) : Type 0 where
-  pub step : ℕ
-  pub in_rows : step < length rows
-  pub is : get_or rows step 0 ≡ row
-  pub fit : (q : ℕ) → q < step → Fits (new (get_or rows q 0))
-  pub past : PastAt (new row) bound
+use Rattle.sheet.proofs.Checks.{passed_all}
 
 -- ---- the looks at the limits
 module _ (call : CallName) (k : ℕ) (new : ℕ → Value) where
@@ -116,15 +104,10 @@ passed_early (check true refusal' ∷ rest) then refusal l z e = let p = passed_
 passed_early (check false refusal' ∷ rest) then refusal l z e = absurd (false≢true (sym l.0 ∙ ap empties e ∙ z))
 
 -- ---- the call
-pub record Stops (s : Shape) (call : Call) (cells draft : List Record) (row : ℕ) (bound : Bound) : Type 0 where
-  pub memory : has_both s cells draft ≡ true
-  pub checked : Passed (checks s call)
-  pub first : FirstPast (new_column s call (columns s cells)) (worked_rows s call) row bound
-
-pub first_past : (s : Shape) (call : Call) (cells draft : List Record) (row : ℕ) (bound : Bound) → (call_answer s call cells draft ≡ refused (past (name call) (target call) row bound)) ↔ Stops s call cells draft row bound
+pub first_past : (s : Shape) (call : Call) (cells draft : List Record) (row : ℕ) (bound : Bound) → (call_answer s call cells draft ≡ refused (past (name call) (target call) row bound)) ↔ StopsAt s call cells draft row bound
 unfolding call_answer
 first_past s call cells draft row bound =
-    let new = new_column s call (columns s cells) in let rows = worked_rows s call in
+    let new = new_column s call (cells_in s cells) in let rows = worked_rows s call in
     let list = check (has_both s cells draft) (WrongLength (name call) (target call)) ∷ checks s call in
     let refusal = past (name call) (target call) row bound in
     let then = first_refusal (limits (name call) (target call) new rows) granted in (

@@ -12,7 +12,7 @@ use Rattle.sheet.specs.Answers.{Stage, filling, working, Ask, setting, beginning
 use Rattle.sheet.specs.Calls.{Call, dot, sum, blend, product, solve, join, copy, permute, alpha_of, beta_of, entry_of}
 use Rattle.sheet.specs.Checks.{granted, refused}
 use Rattle.sheet.specs.ExactRuns.{Choice, Follows, ExactRun, starts, drafts, posts as exact_posts, withdraws as exact_withdraws, stays}
-use Rattle.sheet.specs.Memory.{column, columns}
+use Rattle.sheet.specs.Memory.{column, cells_in}
 use Rattle.sheet.specs.Promises.{CallTells, AllTell, Begun}
 use Rattle.sheet.specs.Runs.{Event, told, Ran, opened, went_on, lost_draft, turned_away}
 use Rattle.sheet.proofs.Containing.{filled}
@@ -83,7 +83,7 @@ module _ (laws : Laws) (s : Shape) (owes : Owes s) where
       → (xs : ℕ → ℕ → Held) × ExactRun s (told beginning supplied other granted ∷ h) working xs (λ row. nothing)
   begun {h} {cells} supplied other r =
       let z = scale_positive s.scale (legal r).scale in
-      let some = λ (k row : ℕ). choice s.scale (columns s cells k row) z (laws.read_cell (slice_index_or (column s cells k) row blank)) in
+      let some = λ (k row : ℕ). choice s.scale (cells_in s cells k row) z (laws.read_cell (slice_index_or (column s cells k) row blank)) in
       (λ k row. (some k row).0, starts (λ k row. (some k row).0) (λ k row a b. subst (λ c. Chosen s.scale c (some k row).0) (filled laws s owes r refl k row a b) (some k row).1))
 
   pub beside : {h : List Event} {stage : Stage} {cells draft : List Record} → Ran s h stage cells draft → Begun stage → AllTell h → (xs : ℕ → ℕ → Held) × (ys : ℕ → Held) × ExactRun s h stage xs ys

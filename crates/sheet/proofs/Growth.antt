@@ -4,13 +4,13 @@ use Rattle.std.proofs.lemmas.Bool.{ltb-true}
 use Rattle.arithmetic.specs.Sets.{Set, Included}
 use Rattle.arithmetic.proofs.Sets.{products_grow, sums_grow, negatives_grow, quotients_grow, totals_grow}
 use Rattle.layouts.specs.Rows.{solved_from, solved_count}
+use Rattle.sheet.specs.CallLaws.{Passed}
 use Rattle.sheet.specs.declared.shape.Shape.{Shape}
 use Rattle.sheet.specs.Calls.{Call, dot, sum, blend, product, solve, join, copy, permute}
 use Rattle.sheet.specs.Checks.{checks}
 use Rattle.sheet.specs.Formulas.{Operands, Of, Where, Formula}
 use Rattle.sheet.specs.Permutations.{is_permutation}
 use Rattle.sheet.proofs.Arrangements.{each_once}
-use Rattle.sheet.proofs.Checks.{Passed}
 use Rattle.sheet.proofs.Orders.{Earlier, few_columns}
 
 -- ---- a permutation names rows of the column

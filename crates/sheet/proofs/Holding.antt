@@ -12,21 +12,22 @@ use Rattle.cells.specs.Reading.{read_cell}
 use Rattle.cells.specs.Rules.{Rule, Admitted}
 use Rattle.cells.specs.Scales.{IsScale}
 use Rattle.layouts.specs.Laws.{Laws as LayoutLaws}
+use Rattle.sheet.specs.CallLaws.{Passed, Fits}
 use Rattle.sheet.specs.declared.shape.Shape.{Shape}
 use Rattle.sheet.specs.Calls.{Call, dot, sum, blend, product, solve, join, copy, permute, alpha_of, beta_of, entry_of}
 use Rattle.sheet.specs.Checks.{checks, worked_rows}
 use Rattle.sheet.specs.ExactRuns.{Choice, Follows}
 use Rattle.sheet.specs.Formulas.{Of, Reached, Only, Gives, no_value, value}
-use Rattle.sheet.specs.Memory.{columns, column}
+use Rattle.sheet.specs.Memory.{cells_in, column}
 use Rattle.sheet.specs.NewColumns.{new_column}
-use Rattle.sheet.proofs.Checks.{Passed, Fits, fits_cell}
+use Rattle.sheet.proofs.Checks.{fits_cell}
 use Rattle.sheet.proofs.Growth.{Plain, Fewer, formula_grows}
 use Rattle.sheet.proofs.Orders.{by_order}
 use Rattle.sheet.proofs.Tightness.{AllCells, new_tight}
 use Rattle.sheet.proofs.WorkedRows.{settled}
 
 -- every record of a column reads as a cell
-pub columns_cells : (s : Shape) (cells : List Record) → AllCells (columns s cells)
+pub columns_cells : (s : Shape) (cells : List Record) → AllCells (cells_in s cells)
 columns_cells s cells k i = read_cell (slice_index_or (column s cells k) i blank)
 
 module _ (cell : CellLaws) (layout : LayoutLaws) (s : Shape) (scale : IsScale s.scale) (u : pos 0 <ℤ s.scale) where

@@ -13,13 +13,14 @@ use Rattle.layouts.specs.Laws.{Laws as LayoutLaws}
 use Rattle.layouts.specs.Matrix.{Matrix, Sound}
 use Rattle.layouts.specs.Orders.{rows_in_order}
 use Rattle.layouts.specs.Rows.{ProductValues, SolveValues}
+use Rattle.sheet.specs.CallLaws.{Passed}
 use Rattle.sheet.specs.declared.shape.Shape.{Shape}
 use Rattle.sheet.specs.Calls.{Call, join, target, alpha_of, beta_of, entry_of}
 use Rattle.sheet.specs.Checks.{checks}
 use Rattle.sheet.specs.Formulas.{Operands, Of, Where, Formula}
 use Rattle.sheet.specs.NewColumns.{new_column}
 use Rattle.sheet.specs.Promises.{MatrixInside, CallInside, dot_inside, sum_inside, blend_inside, product_inside, solve_inside, join_inside, copy_inside, permute_inside}
-use Rattle.sheet.proofs.Checks.{Passed, cell_ordered, all_divides}
+use Rattle.sheet.proofs.Checks.{cell_ordered, all_divides}
 use Rattle.sheet.proofs.Growth.{Plain, Fewer, formula_grows}
 use Rattle.sheet.proofs.Holding.{tight}
 use Rattle.sheet.proofs.Orders.{by_order, in_order_all}

@@ -6,7 +6,7 @@ use Rattle.cells.specs.Cells.{written}
 use Rattle.arithmetic.specs.Values.{bounds}
 use Rattle.sheet.specs.declared.shape.Shape.{Shape}
 use Rattle.sheet.specs.Answers.{Stage, filling, working, drafted, sets, begins, calls, posts, withdraws}
-use Rattle.sheet.specs.Memory.{columns}
+use Rattle.sheet.specs.Memory.{cells_in}
 use Rattle.sheet.specs.NewColumns.{new_column}
 use Rattle.sheet.specs.Runs.{Event, Ran, opened, went_on, lost_draft, turned_away}
 use Rattle.sheet.specs.Shapes.{Legal}
@@ -40,7 +40,7 @@ module _ (s : Shape) (owes : Owes s) where
   sized (went_on ask r begins e) = let before = sized r in record { cells_size = before.cells_size; draft_size = before.draft_size; aims = tt }
   sized (went_on {cells} {draft} ask r (calls {call}) e) =
       let before = sized r in
-      record { cells_size = before.cells_size; draft_size = written_size s.rows (new_column s call (columns s cells)); aims = (owes.of_granted call cells draft e).aims }
+      record { cells_size = before.cells_size; draft_size = written_size s.rows (new_column s call (cells_in s cells)); aims = (owes.of_granted call cells draft e).aims }
   sized (went_on {cells} {draft} ask r (posts {k}) e) =
       let before = sized r in
       record { cells_size = posted_size s k cells draft before.aims before.cells_size before.draft_size; draft_size = blanks_size s.rows; aims = tt }

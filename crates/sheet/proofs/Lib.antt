@@ -1,5 +1,7 @@
 pub mod Answering
 pub mod Arrangements
+pub mod CallLawful
+pub mod Carrying
 pub mod Checks
 pub mod ColumnLawful
 pub mod Columns

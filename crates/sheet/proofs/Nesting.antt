@@ -13,7 +13,7 @@ use Rattle.sheet.specs.declared.shape.Shape.{Shape}
 use Rattle.sheet.specs.Answers.{Stage, working, drafted, drafted_for, Ask, beginning, calling, posting, withdrawing, begins, calls, posts, withdraws, answer, call_answer}
 use Rattle.sheet.specs.Calls.{Call}
 use Rattle.sheet.specs.Checks.{granted, refused}
-use Rattle.sheet.specs.Memory.{columns, blanks, written_rows, with_column}
+use Rattle.sheet.specs.Memory.{cells_in, blanks, written_rows, with_column}
 use Rattle.sheet.specs.NewColumns.{new_column}
 use Rattle.sheet.specs.Promises.{CallInside, call_inside, post_inside, withdraw_inside, ColumnsWithin, DraftWithin, Inner, both_begun, both_asked, OwnMemory, NothingRefused, since_begin, one_more, Planned, nothing_asked, then_asked, none_yet, and_then, RunInside}
 use Rattle.sheet.specs.Runs.{Event, told, Ran, went_on, lost_draft, turned_away}
@@ -30,17 +30,17 @@ module _ (laws : Laws) (s : Shape) (owes : Owes s) where
       → ColumnsWithin s (with_column s k cells' draft') (with_column s k cells draft)
   posted_within k cells' draft' cells draft size' size inside_columns inside_draft j row a b = go (cases_eq j k)
     where
-      go : (j ≡ k) ⊎ (j ≢ k) → Within s.scale (columns s (with_column s k cells' draft') j row) (columns s (with_column s k cells draft) j row)
+      go : (j ≡ k) ⊎ (j ≢ k) → Within s.scale (cells_in s (with_column s k cells' draft') j row) (cells_in s (with_column s k cells draft) j row)
       go (inl e) = rw (e, posted_same s k cells' draft' size'.aims size'.cells_size size'.draft_size row b, posted_same s k cells draft size.aims size.cells_size size.draft_size row b) (inside_draft row b)
       go (inr n) = rw (posted_other s k cells' draft' size'.aims size'.cells_size size'.draft_size j row n b, posted_other s k cells draft size.aims size.cells_size size.draft_size j row n b) (inside_columns j row a b)
 
   -- the drafts of two granted calls, the one inside the other
   drafts_within : (call' call : Call) (cells' draft' cells draft : List Record) → CallInside s.scale call' call → ColumnsWithin s cells' cells
       → call_answer s call' cells' draft' ≡ granted → call_answer s call cells draft ≡ granted
-      → (row : ℕ) → row < s.rows → Within s.scale (cell_at (written_rows s.rows (new_column s call' (columns s cells'))) row) (cell_at (written_rows s.rows (new_column s call (columns s cells))) row)
+      → (row : ℕ) → row < s.rows → Within s.scale (cell_at (written_rows s.rows (new_column s call' (cells_in s cells'))) row) (cell_at (written_rows s.rows (new_column s call (cells_in s cells))) row)
   drafts_within call' call cells' draft' cells draft inside columns_inside e' e row b =
-      let new' = new_column s call' (columns s cells') in
-      let new = new_column s call (columns s cells) in
+      let new' = new_column s call' (cells_in s cells') in
+      let new = new_column s call (cells_in s cells) in
       rw (read_back laws s.rows new' row b ((owes.of_granted call' cells' draft' e').cell row b), read_back laws s.rows new row b ((owes.of_granted call cells draft e).cell row b))
       ((owes.of_inside call' call cells' draft' cells draft inside columns_inside e).within row b)
 
@@ -140,7 +140,7 @@ module _ (laws : Laws) (s : Shape) (owes : Owes s) where
       record {
         history = told (calling call') so_far.inner_cells so_far.inner_draft granted ∷ so_far.history;
         inner_cells = so_far.inner_cells;
-        inner_draft = written_rows s.rows (new_column s call' (columns s so_far.inner_cells));
+        inner_draft = written_rows s.rows (new_column s call' (cells_in s so_far.inner_cells));
         run = at_stage (ap drafted (owes.same_target call' call inside)) (went_on (calling call') so_far.run calls g);
         granted_all = and_then so_far.granted_all;
         columns_inside = so_far.columns_inside;

@@ -9,10 +9,10 @@ use Rattle.layouts.specs.declared.side.Side.{Side}
 use Rattle.layouts.specs.declared.side.Side.TheVariants.{Lower, Upper}
 use Rattle.layouts.specs.Laws.{Laws, SolvedBefore}
 use Rattle.layouts.specs.Orders.{row_at, rows_in_order}
+use Rattle.sheet.specs.CallLaws.{Passed}
 use Rattle.sheet.specs.declared.shape.Shape.{Shape}
 use Rattle.sheet.specs.Calls.{Call, dot, sum, blend, product, solve, join, copy, permute}
 use Rattle.sheet.specs.Checks.{checks}
-use Rattle.sheet.proofs.Checks.{Passed}
 
 -- ---- lists of rows
 pub all_rising : (P : ℕ → Type 0) (n : ℕ) → All P (range_with_len 0 n) → (i : ℕ) → i < n → P i

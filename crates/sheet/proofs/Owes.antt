@@ -11,7 +11,7 @@ use Rattle.sheet.specs.Calls.{Call, target}
 use Rattle.sheet.specs.Checks.{granted}
 use Rattle.sheet.specs.ExactRuns.{Choice, Follows}
 use Rattle.sheet.specs.Formulas.{Reached}
-use Rattle.sheet.specs.Memory.{has_both, columns}
+use Rattle.sheet.specs.Memory.{has_both, cells_in}
 use Rattle.sheet.specs.NewColumns.{new_column}
 use Rattle.sheet.specs.Promises.{ColumnsHold, ColumnsWithin, CallInside, CallTells}
 
@@ -19,18 +19,18 @@ use Rattle.sheet.specs.Promises.{ColumnsHold, ColumnsWithin, CallInside, CallTel
 pub record OwesGranted (s : Shape) (call : Call) (cells : List Record) : Type 0 where
   pub aims : target call < s.columns
   -- what is drafted are cells
-  pub cell : (row : ℕ) → row < s.rows → IsCell (new_column s call (columns s cells) row)
+  pub cell : (row : ℕ) → row < s.rows → IsCell (new_column s call (cells_in s cells) row)
   -- each is tight for the values that its operands reach; `new` is the new column, in any form that agrees with it on the rows
-  pub tight : (new : ℕ → Value) → ((row : ℕ) → row < s.rows → new row ≡ new_column s call (columns s cells) row) → (row : ℕ) → row < s.rows → Tightly s.scale (Reached s call (columns s cells) new row) (new row)
+  pub tight : (new : ℕ → Value) → ((row : ℕ) → row < s.rows → new row ≡ new_column s call (cells_in s cells) row) → (row : ℕ) → row < s.rows → Tightly s.scale (Reached s call (cells_in s cells) new row) (new row)
   -- and holds what any exact draft has at its row
-  pub holds : (xs : ℕ → ℕ → Held) (ys : ℕ → Held) (choice : Choice s call) → ColumnsHold s cells xs → Follows s call choice xs ys → (row : ℕ) → row < s.rows → Holds s.scale (new_column s call (columns s cells) row) (ys row)
+  pub holds : (xs : ℕ → ℕ → Held) (ys : ℕ → Held) (choice : Choice s call) → ColumnsHold s cells xs → Follows s call choice xs ys → (row : ℕ) → row < s.rows → Holds s.scale (new_column s call (cells_in s cells) row) (ys row)
   -- there is an exact draft for every choice
   pub follows : CallTells call → (xs : ℕ → ℕ → Held) (choice : Choice s call) → (new : ℕ → Held) × Follows s call choice xs new
 
 -- of a call inside another that is granted, over columns inside its columns
 pub record OwesInside (s : Shape) (call' call : Call) (cells' draft' cells : List Record) : Type 0 where
   pub granted_too : has_both s cells' draft' ≡ true → call_answer s call' cells' draft' ≡ granted
-  pub within : (row : ℕ) → row < s.rows → Within s.scale (new_column s call' (columns s cells') row) (new_column s call (columns s cells) row)
+  pub within : (row : ℕ) → row < s.rows → Within s.scale (new_column s call' (cells_in s cells') row) (new_column s call (cells_in s cells) row)
 
 pub record Owes (s : Shape) : Type 0 where
   pub of_granted : (call : Call) (cells draft : List Record) → call_answer s call cells draft ≡ granted → OwesGranted s call cells

@@ -35,6 +35,17 @@ module _ {V : Type 0} (laws : Laws) (bottom : V) (side : Side) (n : ℕ) (row : 
       subst (λ i. unrolled bottom row n i ≡ unrolled bottom row (suc n) i) at.is (stable n (suc n) at.step at.below at.below (omega (arith, at.below)))
       ∙ ext i h (unrolled bottom row n) new (λ j b. sym (e j (below i j h b)))
 
+  -- and no other column has rows that satisfy their equations
+  only : (z : ℕ → V) → ((i : ℕ) → i < n → z i ≡ row z i) → (f q : ℕ) → q < n → q < f → z (row_at side n q) ≡ unrolled bottom row f (row_at side n q)
+  only z solves zero q h a = absurd (omega arith)
+  only z solves (suc f) q h a =
+      solves (row_at side n q) (laws.row_below side n q h)
+      ∙ ext (row_at side n q) (laws.row_below side n q h) z (unrolled bottom row f)
+      (λ j e. let w = laws.solved_earlier side n q j h e in subst (λ i. z i ≡ unrolled bottom row f i) w.2 (only z solves f w.0 (omega (arith, w.1, h)) (omega (arith, w.1, a))))
+
+  pub unrolled_only : (z : ℕ → V) → ((i : ℕ) → i < n → z i ≡ row z i) → (i : ℕ) → i < n → z i ≡ unrolled bottom row n i
+  unrolled_only z solves i h = let at = step_of side n i h in subst (λ i. z i ≡ unrolled bottom row n i) at.is (only z solves n at.step at.below at.below)
+
 -- the same rows solved before give the same cell
 pub solve_ext : (side : Side) (m : Matrix) (alpha x : Value) (i : ℕ) (z z' : ℕ → Value) → ((j : ℕ) → SolvedBefore side m.rows i j → z j ≡ z' j)
     → solve_cell side m alpha x z i ≡ solve_cell side m alpha x z' i
@@ -52,3 +63,8 @@ solution_row_of laws side m alpha x =
 pub solution_row : (laws : Laws) (side : Side) (m : Matrix) (alpha : Value) (x : ℕ → Value) (i : ℕ) → i < m.rows
     → solution side m alpha x i ≡ solve_cell side m alpha (x i) (solution side m alpha x) i
 solution_row laws side m alpha x = solution_row_of laws side m alpha x (solution side m alpha x) (λ j h. refl)
+
+pub solution_only : (laws : Laws) (side : Side) (m : Matrix) (alpha : Value) (x z : ℕ → Value) → ((i : ℕ) → i < m.rows → z i ≡ solve_cell side m alpha (x i) z i)
+    → (i : ℕ) → i < m.rows → z i ≡ solution side m alpha x i
+solution_only laws side m alpha x =
+    unrolled_only laws empty side m.rows (λ z i. solve_cell side m alpha (x i) z i) (λ i h z z' e. solve_ext side m alpha (x i) i z z' e)

@@ -15,12 +15,13 @@ use Rattle.layouts.specs.Laws.{Laws as LayoutLaws}
 use Rattle.layouts.specs.Matrix.{Matrix}
 use Rattle.layouts.specs.Orders.{rows_in_order}
 use Rattle.layouts.specs.Rows.{SolveValues}
+use Rattle.sheet.specs.CallLaws.{Passed}
 use Rattle.sheet.specs.declared.shape.Shape.{Shape}
 use Rattle.sheet.specs.Calls.{Call, dot, sum, blend, product, solve, join, copy, permute}
 use Rattle.sheet.specs.Checks.{checks, divides}
 use Rattle.sheet.specs.Formulas.{Where, Reached}
 use Rattle.sheet.specs.NewColumns.{solution, new_column}
-use Rattle.sheet.proofs.Checks.{Passed, cell_ordered, divides_all}
+use Rattle.sheet.proofs.Checks.{cell_ordered, divides_all}
 use Rattle.sheet.proofs.Orders.{Earlier, by_order, all_in_order, few_rows}
 use Rattle.sheet.proofs.Solving.{solution_row_of}
 

@@ -17,9 +17,9 @@ use Rattle.sheet.proofs.Tellers.{meet_tells, hull_tells}
 pub promises : Laws → ((s : Shape) → Legal s → Owes s) → Promises
 promises laws owes = record {
   goes_on = going_on;
-  fits = λ s h stage cells draft r. fitting s (owes s (legal r)) r;
-  filled = λ s h cells draft r. filled laws s (owes s (legal r)) r refl;
-  posted = λ s h k cells draft r j row a b. posting_moves s (owes s (legal r)) r j row b;
+  keeps_length = λ s h stage cells draft r. fitting s (owes s (legal r)) r;
+  stands_as_set = λ s h cells draft r. filled laws s (owes s (legal r)) r refl;
+  post_moves_draft = λ s h k cells draft r j row a b. posting_moves s (owes s (legal r)) r j row b;
   contains = λ s h stage cells draft xs ys r x. let c = contained laws s (owes s (legal r)) r x in (c.columns_hold, c.draft_holds);
   close = λ s h call cells before stage after draft r. close laws s (owes s (legal r)) r;
   tight = λ s h call cells before stage after draft r. tight laws s (owes s (legal r)) r;

@@ -5,11 +5,11 @@ use Rattle.std.proofs.lemmas.List.Elements.{All-head, All-nil, All-cons}
 use Rattle.arithmetic.specs.Values.{Value}
 use Rattle.cells.specs.Cells.{IsCell}
 use Rattle.layouts.specs.Laws.{Laws as LayoutLaws}
+use Rattle.sheet.specs.CallLaws.{Passed}
 use Rattle.sheet.specs.declared.shape.Shape.{Shape}
 use Rattle.sheet.specs.Calls.{Call, dot, sum, blend, product, solve, join, copy, permute, target}
 use Rattle.sheet.specs.Checks.{checks, worked_rows}
 use Rattle.sheet.specs.NewColumns.{new_column}
-use Rattle.sheet.proofs.Checks.{Passed}
 use Rattle.sheet.proofs.Orders.{all_rising, rising_all, all_in_order, in_order_all, few_rows}
 use Rattle.sheet.proofs.Tightness.{AllCells}
 

@@ -10,7 +10,7 @@ use Rattle.sheet.specs.declared.refusal.Refusal.TheVariants.{ScaleOutside, Shape
 use Rattle.sheet.specs.declared.shape.Shape.{Shape}
 use Rattle.sheet.specs.Calls.{Call, name, target}
 use Rattle.sheet.specs.Checks.{check, Answer, granted, refused, first_refusal, column_named, row_named, checks, worked_rows, limits}
-use Rattle.sheet.specs.Memory.{has_cells, has_both, columns, blanks, written_rows, with_column}
+use Rattle.sheet.specs.Memory.{has_cells, has_both, cells_in, blanks, written_rows, with_column}
 use Rattle.sheet.specs.NewColumns.{new_column}
 use Rattle.sheet.specs.Shapes.{legal_scale, legal_size}
 
@@ -68,7 +68,7 @@ check_answer s call cells draft = first_refusal (check (has_both s cells draft) 
 unfoldable pub call_answer : Shape → Call → (cells draft : List Record) → Answer
 call_answer s call cells draft =
     first_refusal (check (has_both s cells draft) (WrongLength (name call) (target call)) ∷ checks s call)
-    (first_refusal (limits (name call) (target call) (new_column s call (columns s cells)) (worked_rows s call)) granted)
+    (first_refusal (limits (name call) (target call) (new_column s call (cells_in s cells)) (worked_rows s call)) granted)
 
 abbrev pub close_answer : Shape → CallName → (k : ℕ) (cells draft : List Record) → Answer
 close_answer s call k cells draft = first_refusal (check (has_both s cells draft) (WrongLength call k) ∷ []) granted
@@ -115,7 +115,7 @@ abbrev pub draft_after : Shape → Ask → (cells draft : List Record) → Answe
 draft_after s ask cells draft (refused refusal) = cond (empties_draft refusal) (blanks s.rows) draft
 draft_after s (setting k i lower upper) cells draft granted = draft
 draft_after s beginning cells draft granted = draft
-draft_after s (calling call) cells draft granted = written_rows s.rows (new_column s call (columns s cells))
+draft_after s (calling call) cells draft granted = written_rows s.rows (new_column s call (cells_in s cells))
 draft_after s posting cells draft granted = blanks s.rows
 draft_after s withdrawing cells draft granted = blanks s.rows
 

@@ -19,8 +19,8 @@ abbrev pub column : Shape → (cells : List Record) → (k : ℕ) → List Recor
 column s cells k = take s.rows (drop (k * s.rows) cells)
 
 -- the cell at a row of a column
-abbrev pub columns : Shape → (cells : List Record) → (k row : ℕ) → Value
-columns s cells k row = cell_at (column s cells k) row
+abbrev pub cells_in : Shape → (cells : List Record) → (k row : ℕ) → Value
+cells_in s cells k row = cell_at (column s cells k) row
 
 -- n empty cells
 abbrev pub blanks : ℕ → List Record

@@ -14,8 +14,9 @@ abbrev pub unrolled : {V : Type 0} → V → (row : (ℕ → V) → ℕ → V) �
 unrolled bottom row zero i = bottom
 unrolled bottom row (suc depth) i = row (unrolled bottom row depth) i
 
--- The solution z of a triangular system, x being the old column: `solution_row` in proofs/ has the law of it, that each row is
--- z_i = (alpha·x_i − Σ m_ij·z_j)/m_ii over the rows j solved before. No row needs more of them than the matrix has rows.
+-- The solution z of a triangular system, x being the old column. It is the one column that solves its equations: each row of it is
+-- z_i = (alpha·x_i − Σ m_ij·z_j)/m_ii over the rows j solved before, and on the rows of the matrix no other column has such rows
+-- (`solution_solves` and `solution_only` of CallLaws). No row depends on more rows than the matrix has, so that depth is enough.
 abbrev pub solution : Side → Matrix → (alpha : Value) (x : ℕ → Value) → (i : ℕ) → Value
 solution side m alpha x = unrolled empty (λ z i. solve_cell side m alpha (x i) z i) m.rows
 

@@ -16,14 +16,14 @@ use Rattle.sheet.specs.Calls.{Meaning, Call, dot, sum, blend, product, solve, jo
 use Rattle.sheet.specs.Checks.{Answer, granted, refused}
 use Rattle.sheet.specs.ExactRuns.{last_set, Choice, Follows, ExactRun}
 use Rattle.sheet.specs.Formulas.{Reached, Gives}
-use Rattle.sheet.specs.Memory.{has_both, columns, with_column}
+use Rattle.sheet.specs.Memory.{has_both, cells_in, with_column}
 use Rattle.sheet.specs.Runs.{Event, told, Ran, opened, went_on, lost_draft, turned_away}
 
 -- ---- contains: the exact values lie inside the cells
 
 -- a place that holds nothing counts as inside any cell
 abbrev pub ColumnsHold : Shape → (cells : List Record) → (xs : ℕ → ℕ → Held) → Type 0
-ColumnsHold s cells xs = (k row : ℕ) → k < s.columns → row < s.rows → Holds s.scale (columns s cells k row) (xs k row)
+ColumnsHold s cells xs = (k row : ℕ) → k < s.columns → row < s.rows → Holds s.scale (cells_in s cells k row) (xs k row)
 
 -- a draft stands while the sheet is drafted
 abbrev pub DraftHolds : Shape → Stage → (draft : List Record) → (ys : ℕ → Held) → Type 0
@@ -39,18 +39,18 @@ Contains = (s : Shape) (h : List Event) (stage : Stage) (cells draft : List Reco
 -- ---- keeps: a run stays within its memory, and what is set and what is posted is what stands
 
 -- the memory that a run leaves is of its shape's size, so that no ask over it is refused for its length
-abbrev pub Fits : Type 0
-Fits = (s : Shape) (h : List Event) (stage : Stage) (cells draft : List Record) → Ran s h stage cells draft → has_both s cells draft ≡ true
+abbrev pub KeepsLength : Type 0
+KeepsLength = (s : Shape) (h : List Event) (stage : Stage) (cells draft : List Record) → Ran s h stage cells draft → has_both s cells draft ≡ true
 
 -- while a sheet is filled, each cell is as the last granted set made it
-abbrev pub Filled : Type 0
-Filled = (s : Shape) (h : List Event) (cells draft : List Record) → Ran s h filling cells draft
-    → (k row : ℕ) → k < s.columns → row < s.rows → columns s cells k row ≡ last_set h k row
+abbrev pub StandsAsSet : Type 0
+StandsAsSet = (s : Shape) (h : List Event) (cells draft : List Record) → Ran s h filling cells draft
+    → (k row : ℕ) → k < s.columns → row < s.rows → cells_in s cells k row ≡ last_set h k row
 
 -- after a post the column is the draft, and the other columns are as they were
-abbrev pub Posted : Type 0
-Posted = (s : Shape) (h : List Event) (k : ℕ) (cells draft : List Record) → Ran s h (drafted k) cells draft
-    → (j row : ℕ) → j < s.columns → row < s.rows → columns s (with_column s k cells draft) j row ≡ cond (j == k) (cell_at draft row) (columns s cells j row)
+abbrev pub PostMovesDraft : Type 0
+PostMovesDraft = (s : Shape) (h : List Event) (k : ℕ) (cells draft : List Record) → Ran s h (drafted k) cells draft
+    → (j row : ℕ) → j < s.columns → row < s.rows → cells_in s (with_column s k cells draft) j row ≡ cond (j == k) (cell_at draft row) (cells_in s cells j row)
 
 -- ---- close and tight: the cells are no wider than whole steps make them
 
@@ -63,13 +63,13 @@ NearBounds u S (bounds a b) = Near u a S × Near u b S
 abbrev pub Close : Type 0
 Close = (s : Shape) (h : List Event) (call : Call) (cells before : List Record) (stage : Stage) (after draft : List Record)
     → Ran s (told (calling call) cells before granted ∷ h) stage after draft
-    → (row : ℕ) → row < s.rows → NearBounds s.scale (Reached s call (columns s cells) (cell_at draft) row) (cell_at draft row)
+    → (row : ℕ) → row < s.rows → NearBounds s.scale (Reached s call (cells_in s cells) (cell_at draft) row) (cell_at draft row)
 
 -- more than that: the drafted cell holds every value that its operands reach, and is empty exactly where they reach none
 abbrev pub TightDrafts : Type 0
 TightDrafts = (s : Shape) (h : List Event) (call : Call) (cells before : List Record) (stage : Stage) (after draft : List Record)
     → Ran s (told (calling call) cells before granted ∷ h) stage after draft
-    → (row : ℕ) → row < s.rows → Tightly s.scale (Reached s call (columns s cells) (cell_at draft) row) (cell_at draft row)
+    → (row : ℕ) → row < s.rows → Tightly s.scale (Reached s call (cells_in s cells) (cell_at draft) row) (cell_at draft row)
 
 -- ---- isotone: a sheet begun inside another stays inside it
 
@@ -97,7 +97,7 @@ pub data AskInside (u : ℤ) : (inner outer : Ask) → Type 0 where
   withdraw_inside : AskInside u withdrawing withdrawing
 
 abbrev pub ColumnsWithin : Shape → (cells' cells : List Record) → Type 0
-ColumnsWithin s cells' cells = (k row : ℕ) → k < s.columns → row < s.rows → Within s.scale (columns s cells' k row) (columns s cells k row)
+ColumnsWithin s cells' cells = (k row : ℕ) → k < s.columns → row < s.rows → Within s.scale (cells_in s cells' k row) (cells_in s cells k row)
 
 abbrev pub DraftWithin : Shape → Stage → (draft' draft : List Record) → Type 0
 DraftWithin s filling draft' draft = Unit {0}
@@ -142,10 +142,10 @@ pub data Planned (s : Shape) : (asks : List Ask) (h : List Event) (start : List 
   then_asked : {asks : List Ask} {h : List Event} {start : List Record} {ask ask' : Ask} {cells draft : List Record} → Planned s asks h start → AskInside s.scale ask' ask
       → Planned s (ask' ∷ asks) (told ask cells draft granted ∷ h) start
 
--- Granted asks before h: h is the history `before` with these asks, newest first, all granted
-pub data Granted : (asks : List Ask) (before h : List Event) → Type 0 where
-  none_yet : {before : List Event} → Granted [] before before
-  and_then : {asks : List Ask} {before h : List Event} {ask : Ask} {cells draft : List Record} → Granted asks before h → Granted (ask ∷ asks) before (told ask cells draft granted ∷ h)
+-- AllGranted asks before h: h is the history `before` with these asks, newest first, all granted
+pub data AllGranted : (asks : List Ask) (before h : List Event) → Type 0 where
+  none_yet : {before : List Event} → AllGranted [] before before
+  and_then : {asks : List Ask} {before h : List Event} {ask : Ask} {cells draft : List Record} → AllGranted asks before h → AllGranted (ask ∷ asks) before (told ask cells draft granted ∷ h)
 
 -- a run that comes of a history by these asks, all of them granted, and stays inside what another run has left
 pub record RunInside (s : Shape) (asks : List Ask) (before : List Event) (stage : Stage) (cells draft : List Record) : Type 0 where
@@ -153,7 +153,7 @@ pub record RunInside (s : Shape) (asks : List Ask) (before : List Event) (stage 
   pub inner_cells : List Record
   pub inner_draft : List Record
   pub run : Ran s history stage inner_cells inner_draft
-  pub granted_all : Granted asks before history
+  pub granted_all : AllGranted asks before history
   pub columns_inside : ColumnsWithin s inner_cells cells
   pub draft_inside : DraftWithin s stage inner_draft draft
 
@@ -216,9 +216,9 @@ EveryChoice = (s : Shape) (h : List Event) (call : Call) (cells before : List Re
 
 pub record Promises : Type 0 where
   pub goes_on : GoesOn
-  pub fits : Fits
-  pub filled : Filled
-  pub posted : Posted
+  pub keeps_length : KeepsLength
+  pub stands_as_set : StandsAsSet
+  pub post_moves_draft : PostMovesDraft
   pub contains : Contains
   pub close : Close
   pub tight : TightDrafts

@@ -3,7 +3,6 @@
 // and no smallest cell, and so no infinity-norm.
 ghost use Rattle.std.specs.Prelude.{◌≡◌, ◌≤◌, length, IfSome, nat_lt};
 ghost use Rattle.cells.specs.Cells.{read_as};
-ghost use Rattle.sheet.specs.ColumnLaws.{ColumnLaws};
 ghost use Rattle.sheet.specs.ColumnQuestions.{greater_size, lesser_size, exceeds, first_of, one_norm_of, infinity_norm_of, largest_of, smallest_of, enclosed_in};
 
 use cells::cell::Record;
@@ -97,9 +96,3 @@ pub(crate) fn enclosed(inner: &[Record], outer: &[Record]) -> bool
         .zip(outer)
         .all(|(record, around)| inside(read(*record), read(*around)))
 }
-
-// What these answers say, row by row, of every column: theorems that the gate asks for, since a contract names them. The call does
-// nothing when a program runs.
-pub fn column_laws_stand()
-    ensures { ColumnLaws }
-{}

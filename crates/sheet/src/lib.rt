@@ -1,11 +1,14 @@
 // The sheet: columns of cells in supplied memory, the calls that work on them through a draft, and what every list of calls keeps.
 #![tactic(auto)]
 
-pub mod column;
+mod column;
+pub mod laws;
 mod memory;
 mod new_columns;
 pub mod permutation;
+pub mod questions;
 pub mod refusal;
 mod rows;
 pub mod shape;
 pub mod states;
+pub mod words;

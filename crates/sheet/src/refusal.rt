@@ -1,8 +1,10 @@
 // Why a call is refused, and the fault of a call that worked out a bound beyond the limit.
 ghost use Rattle.std.specs.Prelude.{◌≡◌};
+ghost use Rattle.sheet.specs.Refusals.{number, call_of, column_of, row_of, bound_of};
 ghost use Rattle.sheet.specs.declared.refusal.Refusal.TheVariants.{BeyondLimit};
 
 use cells::fault::CellFault;
+use rounding::fault::Bound;
 
 // What a sheet is asked to do.
 #[derive(Clone, Copy, PartialEq, Eq)]
@@ -99,5 +101,79 @@ impl From<SheetFault> for Refusal {
 
     fn from(fault: SheetFault) -> Refusal {
         Refusal::BeyondLimit(fault)
+    }
+}
+
+// What a refusal says, as plain values.
+impl Refusal {
+    pub fn number(self) -> u32
+        ensures { result ≡ number self }
+    {
+        match self {
+            Refusal::ScaleOutside => 1,
+            Refusal::ShapeOutside => 2,
+            Refusal::WrongLength { .. } => 3,
+            Refusal::NoSuchColumn { .. } => 4,
+            Refusal::NoSuchRow { .. } => 5,
+            Refusal::NoCell { .. } => 6,
+            Refusal::LayoutTooLarge { .. } => 7,
+            Refusal::DivisorHoldsZero { .. } => 8,
+            Refusal::NoPermutation { .. } => 9,
+            Refusal::BeyondLimit(_) => 10,
+        }
+    }
+
+    pub fn call(self) -> CallName
+        ensures { result ≡ call_of self }
+    {
+        match self {
+            Refusal::ScaleOutside | Refusal::ShapeOutside => CallName::Open,
+            Refusal::WrongLength { call, .. }
+            | Refusal::NoSuchColumn { call, .. }
+            | Refusal::NoSuchRow { call, .. }
+            | Refusal::LayoutTooLarge { call, .. }
+            | Refusal::NoPermutation { call, .. } => call,
+            Refusal::NoCell { .. } => CallName::Set,
+            Refusal::DivisorHoldsZero { .. } => CallName::Solve,
+            Refusal::BeyondLimit(fault) => fault.call,
+        }
+    }
+
+    // The target, the drafted or the first asked-about column; where a column is refused, the first bad one; 0 where none is named.
+    pub fn column(self) -> usize
+        ensures { result ≡ column_of self }
+    {
+        match self {
+            Refusal::ScaleOutside | Refusal::ShapeOutside => 0,
+            Refusal::WrongLength { column, .. }
+            | Refusal::NoSuchColumn { column, .. }
+            | Refusal::NoSuchRow { column, .. }
+            | Refusal::NoCell { column }
+            | Refusal::LayoutTooLarge { column, .. }
+            | Refusal::DivisorHoldsZero { column, .. }
+            | Refusal::NoPermutation { column, .. } => column,
+            Refusal::BeyondLimit(fault) => fault.column,
+        }
+    }
+
+    // The row that is wrong; 0 where none is named.
+    pub fn row(self) -> usize
+        ensures { result ≡ row_of self }
+    {
+        match self {
+            Refusal::NoSuchRow { row, .. } | Refusal::DivisorHoldsZero { row, .. } => row,
+            Refusal::BeyondLimit(fault) => fault.cell.row,
+            _ => 0,
+        }
+    }
+
+    // The bound that is beyond the limit.
+    pub fn bound(self) -> Option<Bound>
+        ensures { result ≡ bound_of self }
+    {
+        match self {
+            Refusal::BeyondLimit(fault) => Some(fault.cell.rounding.bound),
+            _ => None,
+        }
     }
 }

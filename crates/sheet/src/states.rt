@@ -3,10 +3,12 @@
 ghost use Rattle.std.specs.Prelude.{◌≡◌, ◌<◌, true};
 ghost use Rattle.sheet.specs.Shapes.{Legal};
 
+use crate::questions::Questions;
 use crate::refusal::Refusal;
 use crate::shape::Shape;
 
 pub mod calling;
+mod checking;
 pub mod closing;
 pub mod opening;
 
@@ -32,6 +34,49 @@ pub struct Drafted {
     spent: bool,
     ghost legal: { Legal shape },
     ghost aims: { column < shape.columns },
+}
+
+impl Filling {
+    pub fn shape(&self) -> Shape
+        ensures { result ≡ self.now.shape }
+    {
+        self.shape
+    }
+}
+
+impl Working {
+    pub fn shape(&self) -> Shape
+        ensures { result ≡ self.now.shape }
+    {
+        self.shape
+    }
+
+    pub fn ask(&self) -> Questions
+        ensures { result.shape ≡ self.now.shape }
+    {
+        Questions { shape: self.shape }
+    }
+}
+
+impl Drafted {
+    pub fn shape(&self) -> Shape
+        ensures { result ≡ self.now.shape }
+    {
+        self.shape
+    }
+
+    // The column that the draft stands for.
+    pub fn column(&self) -> usize
+        ensures { result ≡ self.now.column }
+    {
+        self.column
+    }
+
+    pub fn ask(&self) -> Questions
+        ensures { result.shape ≡ self.now.shape }
+    {
+        Questions { shape: self.shape }
+    }
 }
 
 impl Drop for Drafted {

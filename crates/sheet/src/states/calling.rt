@@ -4,9 +4,9 @@ ghost use Rattle.sheet.specs.Answers.{working, drafted, calling, check_answer, c
 ghost use Rattle.cells.specs.Worked.{sum_at};
 ghost use Rattle.sheet.specs.Calls.{sum, join, copy, permute};
 ghost use Rattle.sheet.specs.Checks.{granted, refused, check, first_refusal, column_named};
-ghost use Rattle.sheet.specs.Memory.{has_cells, has_both, column, columns, written_rows};
+ghost use Rattle.sheet.specs.Memory.{has_cells, has_both, column, cells_in, written_rows};
 ghost use Rattle.sheet.specs.NewColumns.{new_column};
-ghost use Rattle.sheet.specs.Outcomes.{answer_of, called, outcome};
+ghost use Rattle.sheet.specs.Outcomes.{answer_of, answered_call, Calls, Drafts};
 ghost use Rattle.sheet.specs.Faults.{in_call};
 ghost use Rattle.sheet.specs.declared.refusal.CallName.TheVariants.{Sum};
 ghost use Rattle.sheet.specs.declared.refusal.Refusal.TheVariants.{WrongLength, NoSuchColumn, NoSuchRow};
@@ -22,63 +22,10 @@ use cells::formulas::sum;
 use cells::rules::JoinRule;
 
 impl Working {
-    fn check_lengths(
-        &self,
-        call: CallName,
-        column: usize,
-        cells: &[Record],
-        draft: &[Record],
-    ) -> Result<(), Refusal>
-        ensures { MatchResult result (λ u. has_both self.now.shape cells.now draft.now ≡ true) (λ r. (has_both self.now.shape cells.now draft.now ≡ false) × (r ≡ WrongLength call column)) }
-    {
-        if self.shape.has_both(cells, draft) {
-            Ok(())
-        } else {
-            Err(Refusal::WrongLength { call, column })
-        }
-    }
-
-    fn check_column(&self, call: CallName, column: usize) -> Result<(), Refusal>
-        ensures { MatchResult result (λ u. column < self.now.shape.columns) (λ r. (self.now.shape.columns ≤ column) × (r ≡ NoSuchColumn call column)) }
-    {
-        if column < self.shape.columns {
-            Ok(())
-        } else {
-            Err(Refusal::NoSuchColumn { call, column })
-        }
-    }
-
-    // The lengths, the target and one other column.
-    fn check_columns(
-        &self,
-        call: CallName,
-        k: usize,
-        x: usize,
-        cells: &[Record],
-        draft: &[Record],
-    ) -> Result<(), Refusal>
-        ensures answer { answer_of result ≡ first_refusal (check (has_both self.now.shape cells.now draft.now) (WrongLength call k) ∷ (column_named self.now.shape call k ∷ (column_named self.now.shape call x ∷ []))) granted }
-        ensures passed { IfOk result (λ u. (has_both self.now.shape cells.now draft.now ≡ true) × (k < self.now.shape.columns) × (x < self.now.shape.columns)) }
-    {
-        self.check_lengths(call, k, cells, draft)?;
-        self.check_column(call, k)?;
-        self.check_column(call, x)
-    }
-
-    fn check_row(&self, call: CallName, column: usize, row: usize) -> Result<(), Refusal>
-        ensures { MatchResult result (λ u. row < self.now.shape.rows) (λ r. (self.now.shape.rows ≤ row) × (r ≡ NoSuchRow call column row)) }
-    {
-        if row < self.shape.rows {
-            Ok(())
-        } else {
-            Err(Refusal::NoSuchRow { call, column, row })
-        }
-    }
-
     // What became of a call on column k: the draft stands for it, or the sheet is handed back.
     fn drafted(self, k: usize, came: Result<(), Refusal>) -> Result<Drafted, Refused>
         requires { IfOk came (λ u. k < self.shape.columns) }
-        ensures { MatchResult came (λ u. called result ≡ record { answer = granted; stage = drafted k; shape = self.shape }) (λ r. called result ≡ record { answer = refused r; stage = working; shape = self.shape }) }
+        ensures { MatchResult came (λ u. answered_call result ≡ record { answer = granted; stage = drafted k; shape = self.shape }) (λ r. answered_call result ≡ record { answer = refused r; stage = working; shape = self.shape }) }
     {
         match came {
             Ok(()) => Ok(Drafted {
@@ -129,7 +76,7 @@ impl Working {
     fn write_cell(&self, k: usize, i: usize, record: Record, cells: &[Record], draft: &mut [Record])
         requires lengths { has_both self.now.shape cells.now draft.old ≡ true }
         requires named { (k < self.now.shape.columns) × (i < self.now.shape.rows) }
-        ensures { draft.new ≡ slice_set (written_rows self.now.shape.rows (columns self.now.shape cells.now k)) i «record» }
+        ensures { draft.new ≡ slice_set (written_rows self.now.shape.rows (cells_in self.now.shape cells.now k)) i «record» }
     {
         let column = self.shape.column(cells, k);
         write_rows(&Copied { column }, draft);
@@ -145,9 +92,7 @@ impl Working {
         cells: &[Record],
         draft: &mut [Record],
     ) -> Result<(), Refusal>
-        ensures answer { answer_of result ≡ call_answer self.now.shape (sum k i x) cells.now draft.old }
-        ensures draft { draft.new ≡ draft_after self.now.shape (calling (sum k i x)) cells.now draft.old (call_answer self.now.shape (sum k i x) cells.now draft.old) }
-        ensures inside { IfOk result (λ u. k < self.now.shape.columns) }
+        ensures { Drafts self.now.shape (sum k i x) cells.now draft.old result draft.new }
     {
         self.check_sum(k, i, x, cells, draft)?;
         match self.summed(k, i, x, cells) {
@@ -172,7 +117,7 @@ impl Working {
     )
         requires lengths { has_both self.now.shape cells.now draft.old ≡ true }
         requires named { (k < self.now.shape.columns) × (x < self.now.shape.columns) }
-        ensures { draft.new ≡ written_rows self.now.shape.rows (new_column self.now.shape (join k x (R.JoinRule.rule rule.now)) (columns self.now.shape cells.now)) }
+        ensures { draft.new ≡ written_rows self.now.shape.rows (new_column self.now.shape (join k x (R.JoinRule.rule rule.now)) (cells_in self.now.shape cells.now)) }
     {
         let joined = Joined {
             rule,
@@ -191,9 +136,7 @@ impl Working {
         cells: &[Record],
         draft: &mut [Record],
     ) -> Result<(), Refusal>
-        ensures answer { answer_of result ≡ call_answer self.now.shape (join k x (R.JoinRule.rule rule.now)) cells.now draft.old }
-        ensures draft { draft.new ≡ draft_after self.now.shape (calling (join k x (R.JoinRule.rule rule.now))) cells.now draft.old (call_answer self.now.shape (join k x (R.JoinRule.rule rule.now)) cells.now draft.old) }
-        ensures inside { IfOk result (λ u. k < self.now.shape.columns) }
+        ensures { Drafts self.now.shape (join k x (R.JoinRule.rule rule.now)) cells.now draft.old result draft.new }
     {
         self.check_columns(CallName::Join, k, x, cells, draft)?;
         self.write_joined(k, x, rule, cells, draft);
@@ -208,13 +151,13 @@ impl Working {
         cells: &[Record],
         draft: &mut [Record],
     ) -> Result<(), Refusal>
-        ensures answer { answer_of result ≡ call_answer self.now.shape (copy k x) cells.now draft.old }
-        ensures draft { draft.new ≡ draft_after self.now.shape (calling (copy k x)) cells.now draft.old (call_answer self.now.shape (copy k x) cells.now draft.old) }
-        ensures inside { IfOk result (λ u. k < self.now.shape.columns) }
+        ensures { Drafts self.now.shape (copy k x) cells.now draft.old result draft.new }
     {
         self.check_columns(CallName::Copy, k, x, cells, draft)?;
-        let column = self.shape.column(cells, x);
-        write_rows(&Copied { column }, draft);
+        let copied = Copied {
+            column: self.shape.column(cells, x),
+        };
+        write_rows(&copied, draft);
         Ok(())
     }
 
@@ -226,9 +169,7 @@ impl Working {
         cells: &[Record],
         draft: &mut [Record],
     ) -> Result<(), Refusal>
-        ensures answer { answer_of result ≡ call_answer self.now.shape (permute k order.now) cells.now draft.old }
-        ensures draft { draft.new ≡ draft_after self.now.shape (calling (permute k order.now)) cells.now draft.old (call_answer self.now.shape (permute k order.now) cells.now draft.old) }
-        ensures inside { IfOk result (λ u. k < self.now.shape.columns) }
+        ensures { Drafts self.now.shape (permute k order.now) cells.now draft.old result draft.new }
     {
         let call = CallName::Permute;
         self.check_lengths(call, k, cells, draft)?;
@@ -253,8 +194,7 @@ impl Working {
         cells: &[Record],
         draft: &mut [Record],
     ) -> Result<Drafted, Refused>
-        ensures answer { called result ≡ outcome self.shape working (calling (sum k i x)) cells.now draft.old }
-        ensures draft { draft.new ≡ draft_after self.shape (calling (sum k i x)) cells.now draft.old (call_answer self.shape (sum k i x) cells.now draft.old) }
+        ensures { Calls self.shape (sum k i x) cells.now draft.old result draft.new }
     {
         let came = self.sum_rows(k, i, x, cells, draft);
         self.drafted(k, came)
@@ -269,8 +209,7 @@ impl Working {
         cells: &[Record],
         draft: &mut [Record],
     ) -> Result<Drafted, Refused>
-        ensures answer { called result ≡ outcome self.shape working (calling (join k x (R.JoinRule.rule rule.now))) cells.now draft.old }
-        ensures draft { draft.new ≡ draft_after self.shape (calling (join k x (R.JoinRule.rule rule.now))) cells.now draft.old (call_answer self.shape (join k x (R.JoinRule.rule rule.now)) cells.now draft.old) }
+        ensures { Calls self.shape (join k x (R.JoinRule.rule rule.now)) cells.now draft.old result draft.new }
     {
         let came = self.join_rows(k, x, rule, cells, draft);
         self.drafted(k, came)
@@ -284,8 +223,7 @@ impl Working {
         cells: &[Record],
         draft: &mut [Record],
     ) -> Result<Drafted, Refused>
-        ensures answer { called result ≡ outcome self.shape working (calling (permute k order.now)) cells.now draft.old }
-        ensures draft { draft.new ≡ draft_after self.shape (calling (permute k order.now)) cells.now draft.old (call_answer self.shape (permute k order.now) cells.now draft.old) }
+        ensures { Calls self.shape (permute k order.now) cells.now draft.old result draft.new }
     {
         let came = self.permute_rows(k, order, cells, draft);
         self.drafted(k, came)
@@ -299,8 +237,7 @@ impl Working {
         cells: &[Record],
         draft: &mut [Record],
     ) -> Result<Drafted, Refused>
-        ensures answer { called result ≡ outcome self.shape working (calling (copy k x)) cells.now draft.old }
-        ensures draft { draft.new ≡ draft_after self.shape (calling (copy k x)) cells.now draft.old (call_answer self.shape (copy k x) cells.now draft.old) }
+        ensures { Calls self.shape (copy k x) cells.now draft.old result draft.new }
     {
         let came = self.copy_rows(k, x, cells, draft);
         self.drafted(k, came)

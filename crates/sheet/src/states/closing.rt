@@ -1,7 +1,7 @@
 // Ending a draft: posted to its column, or withdrawn.
-ghost use Rattle.std.specs.Prelude.{◌≡◌, IfErr};
-ghost use Rattle.sheet.specs.Answers.{drafted, posting, withdrawing, answer, cells_after, draft_after};
-ghost use Rattle.sheet.specs.Outcomes.{outcome, closed};
+ghost use Rattle.std.specs.Prelude.{◌≡◌, length};
+ghost use Rattle.sheet.specs.Memory.{blanks};
+ghost use Rattle.sheet.specs.Outcomes.{Posts, Withdraws, StillStands};
 ghost use Rattle.sheet.specs.declared.refusal.Refusal.TheVariants.{WrongLength};
 
 use crate::memory::clear;
@@ -22,16 +22,20 @@ impl Drafted {
         }
     }
 
+    // Empties the draft and spends the state: it may be let go now.
+    fn spend(mut self, draft: &mut [Record]) -> Working
+        ensures shape { result.shape ≡ self.shape }
+        ensures draft { draft.new ≡ blanks (length draft.old) }
+    {
+        clear(draft);
+        self.spent = true;
+        Working { shape: self.shape }
+    }
+
     // Copies the draft to its column, and empties it.
-    pub fn post(
-        mut self,
-        cells: &mut [Record],
-        draft: &mut [Record],
-    ) -> Result<Working, StillDrafted>
-        ensures answer { closed result ≡ outcome self.shape (drafted self.column) posting cells.old draft.old }
-        ensures standing { IfErr result (λ e. e.sheet.spent ≡ self.spent) }
-        ensures cells { cells.new ≡ cells_after self.shape (drafted self.column) posting cells.old draft.old (answer self.shape (drafted self.column) posting cells.old draft.old) }
-        ensures draft { draft.new ≡ draft_after self.shape posting cells.old draft.old (answer self.shape (drafted self.column) posting cells.old draft.old) }
+    pub fn post(self, cells: &mut [Record], draft: &mut [Record]) -> Result<Working, StillDrafted>
+        ensures posts { Posts self.shape self.column cells.old draft.old result cells.new draft.new }
+        ensures standing { StillStands self.spent result }
     {
         if !self.shape.has_both(cells, draft) {
             return Err(self.refused(CallName::Post));
@@ -39,26 +43,17 @@ impl Drafted {
         let rows = self.shape.rows;
         let from = self.column * rows;
         cells[from..from + rows].copy_from_slice(draft);
-        clear(draft);
-        self.spent = true;
-        Ok(Working { shape: self.shape })
+        Ok(self.spend(draft))
     }
 
     // Empties the draft, and leaves the columns as they are.
-    pub fn withdraw(
-        mut self,
-        cells: &[Record],
-        draft: &mut [Record],
-    ) -> Result<Working, StillDrafted>
-        ensures answer { closed result ≡ outcome self.shape (drafted self.column) withdrawing cells.now draft.old }
-        ensures standing { IfErr result (λ e. e.sheet.spent ≡ self.spent) }
-        ensures draft { draft.new ≡ draft_after self.shape withdrawing cells.now draft.old (answer self.shape (drafted self.column) withdrawing cells.now draft.old) }
+    pub fn withdraw(self, cells: &[Record], draft: &mut [Record]) -> Result<Working, StillDrafted>
+        ensures withdraws { Withdraws self.shape self.column cells.now draft.old result draft.new }
+        ensures standing { StillStands self.spent result }
     {
         if !self.shape.has_both(cells, draft) {
             return Err(self.refused(CallName::Withdraw));
         }
-        clear(draft);
-        self.spent = true;
-        Ok(Working { shape: self.shape })
+        Ok(self.spend(draft))
     }
 }

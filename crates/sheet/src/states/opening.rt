@@ -1,9 +1,8 @@
 // Opening a sheet and filling it, cell after cell.
-ghost use Rattle.std.specs.Prelude.{◌≡◌, []};
-ghost use Rattle.sheet.specs.Answers.{filling, setting, beginning, set_answer, open_answer, cells_after, cells_opened, draft_opened};
-ghost use Rattle.sheet.specs.Outcomes.{outcome, answer_of, opened, shape_or, begun};
-ghost use Rattle.sheet.specs.declared.shape.Shape.{Shape};
+ghost use Rattle.sheet.specs.Outcomes.{Opens, Sets, Begins};
+ghost use Rattle.sheet.specs.Promises.{Promises};
 
+use crate::laws::promises_hold;
 use crate::memory::clear;
 use crate::refusal::{CallName, Refusal};
 use crate::shape::Shape;
@@ -20,9 +19,7 @@ impl Filling {
         cells: &mut [Record],
         draft: &mut [Record],
     ) -> Result<Filling, Refusal>
-        ensures answer { opened result ≡ shape_or (record { scale = scale; rows = rows; columns = columns }) (open_answer (record { scale = scale; rows = rows; columns = columns }) cells.old draft.old) }
-        ensures cells { cells.new ≡ cells_opened (record { scale = scale; rows = rows; columns = columns }) cells.old (open_answer (record { scale = scale; rows = rows; columns = columns }) cells.old draft.old) }
-        ensures draft { draft.new ≡ draft_opened (record { scale = scale; rows = rows; columns = columns }) draft.old (open_answer (record { scale = scale; rows = rows; columns = columns }) cells.old draft.old) }
+        ensures { Opens (record { scale = scale; rows = rows; columns = columns }) cells.old draft.old result cells.new draft.new }
     {
         if scale < 1 || scale > 100_000 {
             return Err(Refusal::ScaleOutside);
@@ -55,8 +52,7 @@ impl Filling {
         upper: i64,
         cells: &mut [Record],
     ) -> Result<(), Refusal>
-        ensures answer { answer_of result ≡ set_answer self.now.shape column row lower upper cells.old }
-        ensures cells { cells.new ≡ cells_after self.now.shape filling (setting column row lower upper) cells.old [] (set_answer self.now.shape column row lower upper cells.old) }
+        ensures { Sets self.now.shape column row lower upper cells.old result cells.new }
     {
         let call = CallName::Set;
         let Shape { rows, columns, .. } = self.shape;
@@ -80,10 +76,13 @@ impl Filling {
         Ok(())
     }
 
-    // The filled sheet as a working one. Nothing is written.
+    // The filled sheet as a working one. Nothing is written. Every program makes this call, so it is where the promises stand: what every
+    // run of the sheet keeps from here on, whatever is asked of it.
     pub fn begin(self, cells: &[Record]) -> Result<Working, NotBegun>
-        ensures { begun result ≡ outcome self.shape filling beginning cells.now [] }
+        ensures begins { Begins self.shape cells.now result }
+        ensures promises { Promises }
     {
+        promises_hold();
         if !self.shape.has_cells(cells) {
             return Err(NotBegun {
                 refusal: Refusal::WrongLength {

@@ -1,0 +1,80 @@
+-- Worked cases of whole calls, put before those of layouts and of cells.
+use Rattle.std.specs.Prelude.{ℕ, List, [], ◌∷◌, ℤ, pos, neg_ℤ}
+use Rattle.rounding.specs.declared.fault.Bound.TheVariants.{Upper}
+use Rattle.cells.specs.declared.cell.Record.{Record}
+use Rattle.cells.specs.Cases.{Cases, case}
+use Rattle.layouts.specs.Cases.{cases as cases-of-layouts}
+use Rattle.layouts.specs.declared.side.Side.TheVariants.{Lower as LowerSide, Upper as UpperSide}
+use Rattle.layouts.specs.Stored.{packed, packed_sound}
+use Rattle.sheet.specs.declared.refusal.CallName.TheVariants.{Blend}
+use Rattle.sheet.specs.declared.refusal.Refusal.TheVariants.{DivisorHoldsZero}
+use Rattle.sheet.specs.declared.shape.Shape.{Shape}
+use Rattle.sheet.specs.Answers.{calling, call_answer, draft_after}
+use Rattle.sheet.specs.Calls.{Meaning, Call, blend, solve}
+use Rattle.sheet.specs.Checks.{Answer, granted, refused, past}
+use Rattle.sheet.specs.Memory.{blanks}
+
+abbrev rec : ℤ → ℤ → Record
+rec l u = record { lower = l; upper = u }
+
+abbrev point : ℕ → Record
+point n = rec (pos n) (pos n)
+
+abbrev minus : ℕ → ℤ
+minus n = neg_ℤ (pos n)
+
+-- what a call answers, and the draft that it leaves, on a sheet of two rows whose draft is empty
+abbrev of_two : (u columns : ℕ) → Shape
+of_two u columns = record { scale = pos u; rows = 2; columns = columns }
+
+abbrev answered : Shape → Call → List Record → Answer
+answered s call cells = call_answer s call cells (blanks 2)
+
+abbrev drafted_by : Shape → Call → List Record → List Record
+drafted_by s call cells = draft_after s (calling call) cells (blanks 2) (answered s call cells)
+
+-- the lower triangle [20, 20]; [10, 10], d, and the upper one d, [10, 10]; [20, 20]
+abbrev below : Record → Meaning
+below d = let run = point 20 ∷ (point 10 ∷ (d ∷ [])) in record { matrix = packed run LowerSide 2; sound = packed_sound run LowerSide 2 }
+
+abbrev above : Record → Meaning
+above d = let run = d ∷ (point 10 ∷ (point 20 ∷ [])) in record { matrix = packed run UpperSide 2; sound = packed_sound run UpperSide 2 }
+
+abbrev last : Record
+last = rec (minus 40) (minus 20)
+
+abbrev zero : Record
+zero = rec (minus 1) (pos 2)
+
+-- U = 10, alpha [10, 10]
+abbrev solved : Meaning → List Record → List Record
+solved t = drafted_by (of_two 10 1) (solve 0 LowerSide t (point 10))
+
+abbrev solved_up : Meaning → List Record → List Record
+solved_up t = drafted_by (of_two 10 1) (solve 0 UpperSide t (point 10))
+
+abbrev solves : Cases → Cases
+solves rest =
+    -- a lower triangle is solved from its first row on, an upper one from its last
+    case (solved (below last) (point 30 ∷ (point 50 ∷ []))) (point 15 ∷ (rec (minus 18) (minus 8) ∷ []))
+    (case (solved_up (above last) (point 50 ∷ (point 30 ∷ []))) (rec (minus 18) (minus 8) ∷ (point 15 ∷ []))
+    -- a diagonal entry that holds 0 is refused before any row is worked, and the draft stays as it was
+    (case (answered (of_two 10 1) (solve 0 LowerSide (below zero) (point 10)) (point 30 ∷ (point 50 ∷ []))) (refused (DivisorHoldsZero 0 1))
+    (case (solved (below zero) (point 30 ∷ (point 50 ∷ []))) (blanks 2) rest)))
+
+-- column 0 is the limit M and [0, 0]; column 1 is r and [0, 0]; U = 1, alpha and beta [1, 1]
+abbrev at_limit : (r : Record) → List Record
+at_limit r = point 131071 ∷ (point 0 ∷ (r ∷ (point 0 ∷ [])))
+
+abbrev blended : Call
+blended = blend 1 0 (point 1) (point 1)
+
+abbrev blends : Cases → Cases
+blends rest =
+    case (drafted_by (of_two 1 2) blended (at_limit (point 0))) (point 131071 ∷ (point 0 ∷ []))
+    -- one step beyond the limit: the upper bound at row 0 is told, and the draft is empty
+    (case (answered (of_two 1 2) blended (at_limit (rec (pos 0) (pos 1)))) (refused (past Blend 1 0 Upper))
+    (case (drafted_by (of_two 1 2) blended (at_limit (rec (pos 0) (pos 1)))) (blanks 2) rest))
+
+abbrev pub cases : Cases
+cases = solves (blends cases-of-layouts)
