@@ -24,7 +24,7 @@ use Rattle.sheet.specs.declared.shape.Shape.{Shape}
 use Rattle.sheet.specs.Answers.{calling, call_answer, draft_after}
 use Rattle.sheet.specs.Calls.{sum, join, copy}
 use Rattle.sheet.specs.Checks.{Answer, granted, refused, first_refusal, limits}
-use Rattle.sheet.specs.Memory.{columns, written_rows}
+use Rattle.sheet.specs.Memory.{cells_in, written_rows}
 use Rattle.sheet.specs.NewColumns.{new_column}
 use Rattle.station.specs.declared.job.Missing.{Missing}
 use Rattle.station.specs.Boxes.{box_shape}
@@ -57,12 +57,12 @@ one_row (bounds a b) = by (beyond a) (beyond b) refl refl
     by false true e f = rw (e, f) refl
     by false false e f = rw (e, f) refl
 
-pub sum_answer : (s : Shape) (cells draft : List Record) → s ≡ box_shape → length cells ≡ 15 → length draft ≡ 3 → call_answer s (sum 4 0 0) cells draft ≡ kept_answer (kept (sum_cell (columns box_shape cells 0) 3))
+pub sum_answer : (s : Shape) (cells draft : List Record) → s ≡ box_shape → length cells ≡ 15 → length draft ≡ 3 → call_answer s (sum 4 0 0) cells draft ≡ kept_answer (kept (sum_cell (cells_in box_shape cells 0) 3))
 unfolding call_answer
-sum_answer s cells draft e lc ld = rw (e, eq-eqb (length cells) 15 lc, eq-eqb (length draft) 3 ld) (one_row (sum_cell (columns box_shape cells 0) 3))
+sum_answer s cells draft e lc ld = rw (e, eq-eqb (length cells) 15 lc, eq-eqb (length draft) 3 ld) (one_row (sum_cell (cells_in box_shape cells 0) 3))
 
 pub sum_drafted : (s : Shape) (cells draft new : List Record) → s ≡ box_shape → call_answer s (sum 4 0 0) cells draft ≡ granted
-    → new ≡ draft_after s (calling (sum 4 0 0)) cells draft (call_answer s (sum 4 0 0) cells draft) → new ≡ written_rows 3 (new_column box_shape (sum 4 0 0) (columns box_shape cells))
+    → new ≡ draft_after s (calling (sum 4 0 0)) cells draft (call_answer s (sum 4 0 0) cells draft) → new ≡ written_rows 3 (new_column box_shape (sum 4 0 0) (cells_in box_shape cells))
 sum_drafted s cells draft new e a d = d ∙ rw (a, e) refl
 
 -- the bounds of a sum are in order, since those of each cell are
@@ -75,12 +75,12 @@ cell_ordered : (v : Value) → IsCell v → Ordered v
 cell_ordered empty c = tt
 cell_ordered (bounds a b) c = c.1
 
-pub sum_ordered : (cells : List Record) → Ordered (sum_cell (columns box_shape cells 0) 3)
+pub sum_ordered : (cells : List Record) → Ordered (sum_cell (cells_in box_shape cells 0) 3)
 sum_ordered cells =
-    let x : (row : ℕ) → Ordered (columns box_shape cells 0 row) = λ row. cell_ordered (columns box_shape cells 0 row) (column_cell cells 0 row) in
-    let one = plus_ordered zeros (columns box_shape cells 0 0) (omega (arith, ints)) (x 0) in
-    let two = plus_ordered (plus zeros (columns box_shape cells 0 0)) (columns box_shape cells 0 1) one (x 1) in
-    plus_ordered (plus (plus zeros (columns box_shape cells 0 0)) (columns box_shape cells 0 1)) (columns box_shape cells 0 2) two (x 2)
+    let x : (row : ℕ) → Ordered (cells_in box_shape cells 0 row) = λ row. cell_ordered (cells_in box_shape cells 0 row) (column_cell cells 0 row) in
+    let one = plus_ordered zeros (cells_in box_shape cells 0 0) (omega (arith, ints)) (x 0) in
+    let two = plus_ordered (plus zeros (cells_in box_shape cells 0 0)) (cells_in box_shape cells 0 1) one (x 1) in
+    plus_ordered (plus (plus zeros (cells_in box_shape cells 0 0)) (cells_in box_shape cells 0 1)) (cells_in box_shape cells 0 2) two (x 2)
 
 -- a sum that is granted is a cell, and kept as what is written for it
 pub granted_kept : (laws : Laws) (v : Value) → Ordered v → kept_answer (kept v) ≡ granted → IsCell v × (kept v ≡ Ok (written v))

@@ -12,22 +12,22 @@ use Rattle.rounding.specs.Limit.{lowest, highest}
 use Rattle.cells.specs.declared.cell.Record.{Record}
 use Rattle.cells.specs.Cells.{IsCell, broken, blank, written, read_as, cell_at}
 use Rattle.cells.specs.Reading.{read_cell}
-use Rattle.sheet.specs.Memory.{column, columns, blanks, written_rows, with_column}
+use Rattle.sheet.specs.Memory.{column, cells_in, blanks, written_rows, with_column}
 use Rattle.station.specs.Boxes.{box_shape}
 
 -- the cell at a row of a column stands as many rows on as there are in the columns before
-pub at_place : (cells : List Record) (k row : ℕ) → row < 3 → columns box_shape cells k row ≡ read_as (get_or cells (k * 3 + row) blank)
+pub at_place : (cells : List Record) (k row : ℕ) → row < 3 → cells_in box_shape cells k row ≡ read_as (get_or cells (k * 3 + row) blank)
 at_place cells k row h = ap read_as (get_or-take 3 (drop (k * 3) cells) row blank h ∙ get_or-drop (k * 3) cells row blank)
 
-pub opened_empty : (k row : ℕ) → k < 5 → row < 3 → columns box_shape (blanks 15) k row ≡ empty
+pub opened_empty : (k row : ℕ) → k < 5 → row < 3 → cells_in box_shape (blanks 15) k row ≡ empty
 opened_empty k row h g = at_place (blanks 15) k row g ∙ ap read_as (get_or-replicate 15 (k * 3 + row) blank blank (omega arith))
 
 -- ---- a set
 
-pub set_there : (k i : ℕ) (cells : List Record) (r : Record) → k < 5 → i < 3 → length cells ≡ 15 → columns box_shape (slice_set cells (k * 3 + i) r) k i ≡ read_as r
+pub set_there : (k i : ℕ) (cells : List Record) (r : Record) → k < 5 → i < 3 → length cells ≡ 15 → cells_in box_shape (slice_set cells (k * 3 + i) r) k i ≡ read_as r
 set_there k i cells r h g e = at_place (slice_set cells (k * 3 + i) r) k i g ∙ ap read_as (get_or-set_same cells (k * 3 + i) r blank (omega (arith, e)))
 
-pub set_elsewhere : (k i j row : ℕ) (cells : List Record) (r : Record) → i < 3 → row < 3 → ((j ≡ k) × (row ≡ i) → ⊥) → columns box_shape (slice_set cells (k * 3 + i) r) j row ≡ columns box_shape cells j row
+pub set_elsewhere : (k i j row : ℕ) (cells : List Record) (r : Record) → i < 3 → row < 3 → ((j ≡ k) × (row ≡ i) → ⊥) → cells_in box_shape (slice_set cells (k * 3 + i) r) j row ≡ cells_in box_shape cells j row
 set_elsewhere k i j row cells r g h apart =
     at_place (slice_set cells (k * 3 + i) r) j row h
     ∙ (ap read_as (get_or-set_other cells (k * 3 + i) (j * 3 + row) r blank (λ e. apart (omega (arith, e), omega (arith, e))))
@@ -39,7 +39,7 @@ module _ (k : ℕ) (cells draft : List Record) (here : k < 5) (cells_size : leng
   head_size : length (take (k * 3) cells) ≡ k * 3
   head_size = length-take-le (k * 3) cells (omega (arith, here, cells_size))
 
-  pub posted_there : (row : ℕ) → row < 3 → columns box_shape (with_column box_shape k cells draft) k row ≡ cell_at draft row
+  pub posted_there : (row : ℕ) → row < 3 → cells_in box_shape (with_column box_shape k cells draft) k row ≡ cell_at draft row
   posted_there row h =
       let rest = drop (k * 3 + 3) cells in
       let back : k * 3 + row - k * 3 ≡ row = omega arith in
@@ -68,7 +68,7 @@ module _ (k : ℕ) (cells draft : List Record) (here : k < 5) (cells_size : leng
       go (inr (inl h)) = inl (omega (arith, g, h))
       go (inr (inr h)) = inr (omega (arith, h))
 
-  pub posted_elsewhere : (j row : ℕ) → j ≢ k → row < 3 → columns box_shape (with_column box_shape k cells draft) j row ≡ columns box_shape cells j row
+  pub posted_elsewhere : (j row : ℕ) → j ≢ k → row < 3 → cells_in box_shape (with_column box_shape k cells draft) j row ≡ cells_in box_shape cells j row
   posted_elsewhere j row other h =
       at_place (with_column box_shape k cells draft) j row h
       ∙ (ap read_as (kept_place (j * 3 + row) (outside j row other h)) ∙ sym (at_place cells j row h))
@@ -83,7 +83,7 @@ pub reads : (v : Value) → IsCell v → read_as (written v) ≡ v
 reads empty c = refl
 reads (bounds a b) c = rw (fits a b c.0 c.1 c.2) refl
 
-pub column_cell : (cells : List Record) (k row : ℕ) → IsCell (columns box_shape cells k row)
+pub column_cell : (cells : List Record) (k row : ℕ) → IsCell (cells_in box_shape cells k row)
 column_cell cells k row = read_cell (get_or (column box_shape cells k) row blank)
 
 pub drafted : (new : ℕ → Value) (row : ℕ) → row < 3 → IsCell (new row) → cell_at (written_rows 3 new) row ≡ new row

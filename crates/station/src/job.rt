@@ -8,7 +8,7 @@ ghost use Rattle.cells.specs.Faults.{kept, in_row};
 ghost use Rattle.cells.specs.Formulas.{sum_cell};
 ghost use Rattle.cells.specs.Joins.{met};
 ghost use Rattle.account.specs.Outcomes.{told, as_read};
-ghost use Rattle.sheet.specs.Memory.{columns};
+ghost use Rattle.sheet.specs.Memory.{cells_in};
 ghost use Rattle.station.specs.Boxes.{box_shape, worked_value, pair_at, dip_at, missing_words};
 
 use crate::line::TIPS_OF_A_BOX;
@@ -79,7 +79,7 @@ impl Memory {
 
     fn open(&mut self) -> Filling
         ensures sheet { result.shape ≡ box_shape }
-        ensures cells { (column row : ℕ) → column < COLUMNS → row < TIPS_OF_A_BOX → columns box_shape self.new.cells column row ≡ empty }
+        ensures cells { (column row : ℕ) → column < COLUMNS → row < TIPS_OF_A_BOX → cells_in box_shape self.new.cells column row ≡ empty }
     {
         match Filling::open(
             i64::from(UNIT),
@@ -97,9 +97,9 @@ impl Memory {
     fn set(&mut self, sheet: &Filling, column: usize, row: usize, cell: Cell)
         requires sheet { sheet.now.shape ≡ box_shape }
         requires place { (column < COLUMNS) × (row < TIPS_OF_A_BOX) }
-        requires unset { columns box_shape self.old.cells column row ≡ empty }
-        ensures there { columns box_shape self.new.cells column row ≡ cell_value cell }
-        ensures elsewhere { (j i : ℕ) → i < TIPS_OF_A_BOX → ((j ≡ column) × (i ≡ row) → ⊥) → columns box_shape self.new.cells j i ≡ columns box_shape self.old.cells j i }
+        requires unset { cells_in box_shape self.old.cells column row ≡ empty }
+        ensures there { cells_in box_shape self.new.cells column row ≡ cell_value cell }
+        ensures elsewhere { (j i : ℕ) → i < TIPS_OF_A_BOX → ((j ≡ column) × (i ≡ row) → ⊥) → cells_in box_shape self.new.cells j i ≡ cells_in box_shape self.old.cells j i }
     {
         let Some(pair) = cell else {
             return;
@@ -124,8 +124,8 @@ impl Memory {
     fn post(&mut self, sheet: Drafted) -> Working
         requires sheet { sheet.shape ≡ box_shape }
         ensures sheet { result.shape ≡ box_shape }
-        ensures there { (row : ℕ) → row < TIPS_OF_A_BOX → columns box_shape self.new.cells sheet.column row ≡ cell_at self.old.draft row }
-        ensures elsewhere { (j row : ℕ) → j ≢ sheet.column → row < TIPS_OF_A_BOX → columns box_shape self.new.cells j row ≡ columns box_shape self.old.cells j row }
+        ensures there { (row : ℕ) → row < TIPS_OF_A_BOX → cells_in box_shape self.new.cells sheet.column row ≡ cell_at self.old.draft row }
+        ensures elsewhere { (j row : ℕ) → j ≢ sheet.column → row < TIPS_OF_A_BOX → cells_in box_shape self.new.cells j row ≡ cells_in box_shape self.old.cells j row }
     {
         match sheet.post(&mut self.cells, &mut self.draft) {
             Ok(sheet) => sheet,
@@ -141,9 +141,9 @@ impl Memory {
         dips: &[Option<i32>; TIPS_OF_A_BOX],
     )
         requires sheet { sheet.now.shape ≡ box_shape }
-        requires opened { (column row : ℕ) → column < COLUMNS → row < TIPS_OF_A_BOX → columns box_shape self.old.cells column row ≡ empty }
-        ensures worked { (row : ℕ) → row < TIPS_OF_A_BOX → columns box_shape self.new.cells WORKED row ≡ pair_at worked.now row }
-        ensures dips { (row : ℕ) → row < TIPS_OF_A_BOX → columns box_shape self.new.cells DIPS row ≡ dip_at dips.now row }
+        requires opened { (column row : ℕ) → column < COLUMNS → row < TIPS_OF_A_BOX → cells_in box_shape self.old.cells column row ≡ empty }
+        ensures worked { (row : ℕ) → row < TIPS_OF_A_BOX → cells_in box_shape self.new.cells WORKED row ≡ pair_at worked.now row }
+        ensures dips { (row : ℕ) → row < TIPS_OF_A_BOX → cells_in box_shape self.new.cells DIPS row ≡ dip_at dips.now row }
     {
         for row in 0..TIPS_OF_A_BOX {
             self.set(sheet, WORKED, row, worked_cell(worked[row]));
@@ -157,8 +157,8 @@ impl Memory {
         requires sheet { sheet.shape ≡ box_shape }
         requires named { (target < COLUMNS) × (source < COLUMNS) }
         ensures sheet { result.shape ≡ box_shape }
-        ensures there { (row : ℕ) → row < TIPS_OF_A_BOX → columns box_shape self.new.cells target row ≡ columns box_shape self.old.cells source row }
-        ensures elsewhere { (j row : ℕ) → j ≢ target → row < TIPS_OF_A_BOX → columns box_shape self.new.cells j row ≡ columns box_shape self.old.cells j row }
+        ensures there { (row : ℕ) → row < TIPS_OF_A_BOX → cells_in box_shape self.new.cells target row ≡ cells_in box_shape self.old.cells source row }
+        ensures elsewhere { (j row : ℕ) → j ≢ target → row < TIPS_OF_A_BOX → cells_in box_shape self.new.cells j row ≡ cells_in box_shape self.old.cells j row }
     {
         match sheet.copy(target, source, &self.cells, &mut self.draft) {
             Ok(sheet) => self.post(sheet),
@@ -172,8 +172,8 @@ impl Memory {
         requires sheet { sheet.shape ≡ box_shape }
         requires named { (target < COLUMNS) × (other < COLUMNS) }
         ensures sheet { result.shape ≡ box_shape }
-        ensures there { (row : ℕ) → row < TIPS_OF_A_BOX → columns box_shape self.new.cells target row ≡ met (columns box_shape self.old.cells target row) (columns box_shape self.old.cells other row) }
-        ensures elsewhere { (j row : ℕ) → j ≢ target → row < TIPS_OF_A_BOX → columns box_shape self.new.cells j row ≡ columns box_shape self.old.cells j row }
+        ensures there { (row : ℕ) → row < TIPS_OF_A_BOX → cells_in box_shape self.new.cells target row ≡ met (cells_in box_shape self.old.cells target row) (cells_in box_shape self.old.cells other row) }
+        ensures elsewhere { (j row : ℕ) → j ≢ target → row < TIPS_OF_A_BOX → cells_in box_shape self.new.cells j row ≡ cells_in box_shape self.old.cells j row }
     {
         match sheet.join(target, other, &Meet, &self.cells, &mut self.draft) {
             Ok(sheet) => self.post(sheet),
@@ -186,8 +186,8 @@ impl Memory {
     fn total(&mut self, sheet: Working) -> (Working, Outcome<Missing>)
         requires sheet { sheet.shape ≡ box_shape }
         ensures sheet { result.0.shape ≡ box_shape }
-        ensures total { told 0 result.1 ≡ as_read (in_row 0 (kept (sum_cell (columns box_shape self.old.cells WORKED) TIPS_OF_A_BOX))) }
-        ensures elsewhere { (j row : ℕ) → j ≢ TOTALS → row < TIPS_OF_A_BOX → columns box_shape self.new.cells j row ≡ columns box_shape self.old.cells j row }
+        ensures total { told 0 result.1 ≡ as_read (in_row 0 (kept (sum_cell (cells_in box_shape self.old.cells WORKED) TIPS_OF_A_BOX))) }
+        ensures elsewhere { (j row : ℕ) → j ≢ TOTALS → row < TIPS_OF_A_BOX → cells_in box_shape self.new.cells j row ≡ cells_in box_shape self.old.cells j row }
     {
         // that the bounds of a sum are in order is one of the laws of cells; the call does nothing when the program runs
         cells::laws::laws_stand();
@@ -208,7 +208,7 @@ impl Memory {
     // The cell at a row of a column.
     fn cell(&self, column: usize, row: usize) -> Cell
         requires { (column < COLUMNS) × (row < TIPS_OF_A_BOX) }
-        ensures { cell_value result ≡ columns box_shape self.now.cells column row }
+        ensures { cell_value result ≡ cells_in box_shape self.now.cells column row }
     {
         cell_at(&self.cells, column * TIPS_OF_A_BOX + row)
     }
@@ -219,8 +219,8 @@ impl Memory {
         worked: &[Result<Record, CellFault>; TIPS_OF_A_BOX],
         dips: &[Option<i32>; TIPS_OF_A_BOX],
     ) -> Outcome<Missing>
-        ensures pairs { (row : ℕ) → row < TIPS_OF_A_BOX → columns box_shape self.new.cells PAIRS row ≡ pair_at worked.now row }
-        ensures agreed { (row : ℕ) → row < TIPS_OF_A_BOX → columns box_shape self.new.cells AGREED row ≡ met (pair_at worked.now row) (dip_at dips.now row) }
+        ensures pairs { (row : ℕ) → row < TIPS_OF_A_BOX → cells_in box_shape self.new.cells PAIRS row ≡ pair_at worked.now row }
+        ensures agreed { (row : ℕ) → row < TIPS_OF_A_BOX → cells_in box_shape self.new.cells AGREED row ≡ met (pair_at worked.now row) (dip_at dips.now row) }
         ensures total { told 0 result ≡ as_read (in_row 0 (kept (sum_cell (pair_at worked.now) TIPS_OF_A_BOX))) }
     {
         let sheet = self.open();
@@ -236,7 +236,7 @@ impl Memory {
     // The pair of the tip at a place of the box.
     pub(crate) fn pair(&self, place: usize) -> Cell
         requires { place < TIPS_OF_A_BOX }
-        ensures { cell_value result ≡ columns box_shape self.now.cells PAIRS place }
+        ensures { cell_value result ≡ cells_in box_shape self.now.cells PAIRS place }
     {
         self.cell(PAIRS, place)
     }
@@ -244,7 +244,7 @@ impl Memory {
     // What the pair of a tip and its dip have in common.
     pub(crate) fn agreed(&self, place: usize) -> Cell
         requires { place < TIPS_OF_A_BOX }
-        ensures { cell_value result ≡ columns box_shape self.now.cells AGREED place }
+        ensures { cell_value result ≡ cells_in box_shape self.now.cells AGREED place }
     {
         self.cell(AGREED, place)
     }

@@ -1,7 +1,7 @@
 use Rattle.std.proofs.Common.{◌≡◌, ℕ, ◌∙◌, sym, ap, length, pos, Ok, rules, arith}
 use Rattle.std.proofs.lemmas.List.{get_or_default}
 use Rattle.cells.specs.Cells.{blank}
-use Rattle.sheet.specs.Memory.{columns}
+use Rattle.sheet.specs.Memory.{cells_in}
 use Rattle.station.specs.Boxes.{box_shape, worked_value, pair_at, dip_at}
 use Rattle.station.proofs.Sheets.{none_yet, nothing_set, all_set, one_more}
 use Rattle.station.proofs.job.Memory.fill.Goals as goal
@@ -30,10 +30,10 @@ loop-row-preserved c =
     let size : length c.args.worked.now ≡ 3 = search rules in
     let worked = ap worked_value (get_or_default c.args.worked.now row (Ok (record { lower = pos 0; upper = pos 0 })) (Ok blank) (omega arith)) in
     record {
-      worked = one_more row (pair_at c.args.worked.now) (columns box_shape before 0) (columns box_shape after 0) c.loop-row.invariant.worked
+      worked = one_more row (pair_at c.args.worked.now) (cells_in box_shape before 0) (cells_in box_shape after 0) c.loop-row.invariant.worked
           (second.elsewhere 0 row (omega arith) (λ p. omega (arith, p.0)) ∙ (c.set.ensures.there ∙ (c.worked_cell.ensures ∙ worked)))
           (λ i h other. second.elsewhere 0 i h (λ p. omega (arith, p.0)) ∙ c.set.ensures.elsewhere 0 i h (λ p. other p.1));
-      dips = one_more row (dip_at c.args.dips.now) (columns box_shape before 1) (columns box_shape after 1) c.loop-row.invariant.dips
+      dips = one_more row (dip_at c.args.dips.now) (cells_in box_shape before 1) (cells_in box_shape after 1) c.loop-row.invariant.dips
           (second.there ∙ c.dip_cell.ensures)
           (λ i h other. second.elsewhere 1 i h (λ p. other p.1) ∙ c.set.ensures.elsewhere 1 i h (λ p. omega (arith, p.0)));
     }

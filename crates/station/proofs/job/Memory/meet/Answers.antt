@@ -2,7 +2,7 @@ use Rattle.std.proofs.Common.{◌≡◌, ℕ, length, ap, ◌∙◌, rules}
 use Rattle.cells.specs.Cells.{cell_at}
 use Rattle.cells.specs.Joins.{met}
 use Rattle.cells.specs.JoinLaws.{meet}
-use Rattle.sheet.specs.Memory.{columns, written_rows}
+use Rattle.sheet.specs.Memory.{cells_in, written_rows}
 use Rattle.station.specs.Boxes.{box_shape}
 use Rattle.station.proofs.Calls.{meet_answer}
 use Rattle.station.proofs.Sheets.{column_cell, drafted}
@@ -15,8 +15,8 @@ returns-clause-there c =
     let size : length m.cells ≡ 15 = search rules in
     let draft_size : length m.draft ≡ 3 = search rules in
     let e = meet_answer a.sheet.shape a.target a.other m.cells m.draft c.requires.sheet c.requires.named.0 c.requires.named.1 size draft_size in
-    let new = λ (row : ℕ). met (columns box_shape m.cells a.target row) (columns box_shape m.cells a.other row) in
+    let new = λ (row : ℕ). met (cells_in box_shape m.cells a.target row) (cells_in box_shape m.cells a.other row) in
     let d : c.join.new.draft ≡ written_rows 3 new = search rules in
     let k : c.in-Ok.sheet.column ≡ a.target = search rules in
     λ row h. rw k at (c.post.ensures.there row h)
-    ∙ (ap (λ r. cell_at r row) d ∙ drafted new row h (meet.keeps (columns box_shape m.cells a.target row) (columns box_shape m.cells a.other row) (column_cell m.cells a.target row) (column_cell m.cells a.other row)))
+    ∙ (ap (λ r. cell_at r row) d ∙ drafted new row h (meet.keeps (cells_in box_shape m.cells a.target row) (cells_in box_shape m.cells a.other row) (column_cell m.cells a.target row) (column_cell m.cells a.other row)))
