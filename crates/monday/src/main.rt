@@ -4,22 +4,25 @@
 #![tactic(auto)]
 
 use account::printing::{Words, print};
-use station::line::TIPS_OF_A_BOX;
+use anyhow::anyhow;
+use notes::notes;
+use station::logger::by_tip;
 use station::working::findings;
-use std::io;
+use upstream::{CHANNELS, line, logged};
 
+mod notes;
 mod upstream;
 
-fn main(rt: HostRuntime) -> io::Result<()> {
-    let found = findings(rt.alloc(), &upstream::line())?;
-    let notes = format!(in rt.alloc();
-        "Boxes: every {0} tips share one, calibrated by a band matrix, since neighbours leak a little into one another.\n\
-         Where one reading of a box is missing, none of its {0} tips gets a pair; the other boxes are not touched.\n",
-        TIPS_OF_A_BOX
-    )?;
+fn main(rt: HostRuntime) -> anyhow::Result<()> {
+    let tips = by_tip(&logged(), &CHANNELS).map_err(|refusal| anyhow!(
+        "the list of channels is refused: {refusal}"
+    ))?;
+    let found = findings(rt.alloc(), &line(&tips.readings))?;
+    let notes = notes(rt.alloc(), &tips.instruments)?;
     let words = Words {
         notes: notes.as_str(),
         lacking: "lack a record",
     };
-    print(&rt, found.tips.as_slice(), found.totals.as_slice(), words)
+    print(&rt, found.tips.as_slice(), found.totals.as_slice(), words)?;
+    Ok(())
 }

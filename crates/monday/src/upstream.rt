@@ -1,7 +1,8 @@
-// The upstream line: what the logging station holds of each junction box this month, in steps.
+// The upstream line: what the logging station holds of it this month, in steps.
 use account::records::NOTHING;
 use cells::cell::{EMPTY, Record};
-use station::line::{BOXES, CALIBRATION_PLACES, Junction, TIPS_OF_A_BOX};
+use station::line::{BOXES, CALIBRATION_PLACES, Junction, TIPS, TIPS_OF_A_BOX};
+use station::logger::Logged;
 
 type Pair = (i32, i32);
 
@@ -25,11 +26,42 @@ fn band(diagonal: [Pair; 3], below: [Pair; 2], above: [Pair; 2]) -> [Record; CAL
     ]
 }
 
-// From the core outward, so that the pressure falls from tip to tip.
-pub fn line() -> [Junction; BOXES] {
+// The channel of each tip, as the cables were led into the logger.
+pub const CHANNELS: [usize; TIPS] = [2, 0, 1, 5, 3, 4, 8, 9, 11, 6, 7, 10];
+
+// Channel by channel.
+pub fn logged() -> Logged {
+    Logged {
+        instruments: [
+            40_118, 40_121, 40_117, 40_231, 40_236, 40_230, 40_412, 40_415, 40_341, 40_342, 40_418,
+            40_343,
+        ],
+        readings: [
+            (1552, 1555),
+            (1098, 1102),
+            (1648, 1651),
+            // spoilt in the station's memory: the lower number stands above the upper
+            (1357, 1354),
+            (1290, 1293),
+            // its loop is open
+            NOTHING,
+            (972, 975),
+            (630, 633),
+            (1233, 1235),
+            (1040, 1043),
+            (399, 402),
+            // a loose contact: the current jumps over nearly all of the instrument's range
+            (410, 2090),
+        ]
+        .map(Record::from),
+    }
+}
+
+// From the core outward, so that the pressure falls from tip to tip. The readings are those of the tips in this order.
+pub fn line(readings: &[Record; TIPS]) -> [Junction; BOXES] {
     [
         Junction {
-            readings: records([(1648, 1651), (1552, 1555), (1098, 1102)]),
+            readings: [readings[0], readings[1], readings[2]],
             offsets: records([(-10010, -9990), (-10010, -9990), (-15015, -14985)]),
             calibration: band(
                 [(2500, 2502), (2501, 2503), (3748, 3752)],
@@ -38,10 +70,9 @@ pub fn line() -> [Junction; BOXES] {
             ),
             dips: [Some(30870), Some(28210), Some(26440)],
         },
-        // the loop of tip 4 is open; the record of tip 5 was spoilt in the station's memory: the lower number stands above
-        // the upper; tip 6 reads well
+        // of these three only tip 6 reads well
         Junction {
-            readings: records([NOTHING, (1357, 1354), (1290, 1293)]),
+            readings: [readings[3], readings[4], readings[5]],
             offsets: records([(-10010, -9990), (-10010, -9990), (-10010, -9990)]),
             calibration: band(
                 [(2500, 2502), (2500, 2502), (2499, 2501)],
@@ -50,10 +81,9 @@ pub fn line() -> [Junction; BOXES] {
             ),
             dips: [Some(24630), Some(23300), Some(22310)],
         },
-        // a loose contact at tip 9: the current jumps over nearly all of the instrument's range, and what leaks into tip 8
-        // makes its pair wide
+        // what leaks from the loose contact at tip 9 into tip 8 makes the pair there wide
         Junction {
-            readings: records([(1233, 1235), (1040, 1043), (410, 2090)]),
+            readings: [readings[6], readings[7], readings[8]],
             offsets: records([(-10010, -9990), (-10010, -9990), (-35030, -34970)]),
             calibration: band(
                 [(2499, 2501), (2498, 2500), (8745, 8755)],
@@ -64,7 +94,7 @@ pub fn line() -> [Junction; BOXES] {
         },
         // no dip was taken at tip 10; tip 12 stands nearly dry
         Junction {
-            readings: records([(972, 975), (630, 633), (399, 402)]),
+            readings: [readings[9], readings[10], readings[11]],
             offsets: records([(-6255, -6245), (-6255, -6245), (-6350, -6340)]),
             calibration: band(
                 [(1562, 1563), (1562, 1563), (1562, 1563)],

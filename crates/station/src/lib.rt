@@ -5,4 +5,5 @@
 pub mod job;
 pub mod lack;
 pub mod line;
+pub mod logger;
 pub mod working;

@@ -6,6 +6,8 @@ pub const BOXES: usize = 4;
 // How many neighbouring tips are read by one junction box.
 pub const TIPS_OF_A_BOX: usize = 3;
 
+pub const TIPS: usize = BOXES * TIPS_OF_A_BOX;
+
 // How many records of a run belong to one column of a calibration: above the diagonal, on it and below it.
 pub const STRIDE: usize = 3;
 

@@ -1,0 +1,25 @@
+// What the logger holds of a line, in the order of its channels, and the same in the order of the tips.
+ghost use Rattle.std.specs.Prelude.{IfOk};
+ghost use Rattle.sheet.specs.Permutations.{Gathers};
+
+use crate::line::TIPS;
+use cells::cell::Record;
+use sheet::permutation::permute_run;
+use sheet::refusal::Refusal;
+
+// The number of the instrument on each channel, and the reading that it left.
+#[derive(Clone, Copy)]
+pub struct Logged {
+    pub instruments: [u32; TIPS],
+    pub readings: [Record; TIPS],
+}
+
+// Tip by tip, where `channels` has the channel of each tip. Refused where it names a channel twice or one that there is not.
+pub fn by_tip(logged: &Logged, channels: &[usize; TIPS]) -> Result<Logged, Refusal>
+    ensures { IfOk result (λ tips. Gathers logged.now.instruments channels.now tips.instruments × Gathers logged.now.readings channels.now tips.readings) }
+{
+    let mut tips = *logged;
+    permute_run(&logged.instruments, channels, &mut tips.instruments)?;
+    permute_run(&logged.readings, channels, &mut tips.readings)?;
+    Ok(tips)
+}
