@@ -7,6 +7,8 @@ ghost use Rattle.cells.specs.Cells.{cell_value, cell_at};
 ghost use Rattle.cells.specs.Faults.{kept, in_row};
 ghost use Rattle.cells.specs.Formulas.{sum_cell};
 ghost use Rattle.cells.specs.Joins.{met};
+ghost use Rattle.rounding.specs.declared.fault.Bound.{Bound};
+ghost use Rattle.account.specs.declared.outcome.NoPair.TheVariants.{PastLimit};
 ghost use Rattle.account.specs.Outcomes.{told, as_read};
 ghost use Rattle.sheet.specs.Memory.{cells_in};
 ghost use Rattle.station.specs.Boxes.{box_shape, worked_value, pair_at, dip_at, missing_words};
@@ -187,6 +189,7 @@ impl Memory {
         requires sheet { sheet.shape ≡ box_shape }
         ensures sheet { result.0.shape ≡ box_shape }
         ensures total { told 0 result.1 ≡ as_read (in_row 0 (kept (sum_cell (cells_in box_shape self.old.cells WORKED) TIPS_OF_A_BOX))) }
+        ensures unposted { (bound : Bound) → result.1 ≡ Err (PastLimit bound) → self.new.cells ≡ self.old.cells }
         ensures elsewhere { (j row : ℕ) → j ≢ TOTALS → row < TIPS_OF_A_BOX → cells_in box_shape self.new.cells j row ≡ cells_in box_shape self.old.cells j row }
     {
         // that the bounds of a sum are in order is one of the laws of cells; the call does nothing when the program runs
