@@ -50,7 +50,7 @@ abbrev pub answered_call : Result Drafted Refused → Outcome
 answered_call (Ok d) = record { answer = granted; stage = stage_of d; shape = d.shape }
 answered_call (Err e) = record { answer = refused e.refusal; stage = working; shape = e.sheet.shape }
 
--- a sheet that is handed back is drafted as it was, and its draft is spent no more than it was
+-- a sheet that is handed back is drafted as it was; its flag is told apart, by `StillStands`
 abbrev pub answered_close : Result Working StillDrafted → Outcome
 answered_close (Ok w) = record { answer = granted; stage = working; shape = w.shape }
 answered_close (Err e) = record { answer = refused e.refusal; stage = drafted e.sheet.column; shape = e.sheet.shape }
