@@ -13,7 +13,7 @@ use Rattle.cells.specs.declared.cell.Record.{Record}
 use Rattle.cells.specs.Cells.{IsCell}
 use Rattle.cells.specs.Quotients.{zero_in}
 use Rattle.layouts.specs.Matrix.{Matrix}
-use Rattle.sheet.specs.CallLaws.{Passed, Fits, AllFit}
+use Rattle.sheet.specs.CallLaws.{Passed, BothFit, AllFit}
 use Rattle.sheet.specs.declared.refusal.CallName.{CallName}
 use Rattle.sheet.specs.declared.refusal.Refusal.TheVariants.{WrongLength}
 use Rattle.sheet.specs.declared.shape.Shape.{Shape}
@@ -54,14 +54,14 @@ grants s call cells draft p =
     ∙ passed_all (limits (name call) (target call) (new_column s call (cells_in s cells)) (worked_rows s call)) granted p.limited
 
 -- ---- the limit of a bound
-pub limits_fit : (call : CallName) (k : ℕ) (new : ℕ → Value) (rows : List ℕ) → Passed (limits call k new rows) → All (λ row. Fits (new row)) rows
-limits_fit call k new [] p = All-nil (λ row. Fits (new row))
-limits_fit call k new (row ∷ rows) p = All-cons (λ row. Fits (new row)) row rows (p.0, p.1.0) (limits_fit call k new rows p.1.1)
+pub limits_fit : (call : CallName) (k : ℕ) (new : ℕ → Value) (rows : List ℕ) → Passed (limits call k new rows) → All (λ row. BothFit (new row)) rows
+limits_fit call k new [] p = All-nil (λ row. BothFit (new row))
+limits_fit call k new (row ∷ rows) p = All-cons (λ row. BothFit (new row)) row rows (p.0, p.1.0) (limits_fit call k new rows p.1.1)
 
-pub fit_limits : (call : CallName) (k : ℕ) (new : ℕ → Value) (rows : List ℕ) → All (λ row. Fits (new row)) rows → Passed (limits call k new rows)
+pub fit_limits : (call : CallName) (k : ℕ) (new : ℕ → Value) (rows : List ℕ) → All (λ row. BothFit (new row)) rows → Passed (limits call k new rows)
 fit_limits call k new [] f = tt
 fit_limits call k new (row ∷ rows) f =
-    let here = All-head (λ row. Fits (new row)) row rows f in (here.0, (here.1, fit_limits call k new rows (All-tail (λ row. Fits (new row)) row rows f)))
+    let here = All-head (λ row. BothFit (new row)) row rows f in (here.0, (here.1, fit_limits call k new rows (All-tail (λ row. BothFit (new row)) row rows f)))
 
 within_limit : (a : ℤ) → not (beyond a) ≡ true → (lowest ≤ℤ a) × (a ≤ℤ highest)
 within_limit a e = let p = or_parts (lt_z a lowest) (lt_z highest a) (not-true (beyond a) e) in (omega (arith, ints, p.0), omega (arith, ints, p.1))
@@ -72,11 +72,11 @@ limit_within a h k =
     let high : false ≡ lt_z highest a = omega (arith, ints) in
     not_from_false (beyond a) (or_from (lt_z a lowest) (lt_z highest a) (sym low) (sym high))
 
-pub fits_cell : (c : Value) → Ordered c → Fits c → IsCell c
+pub fits_cell : (c : Value) → Ordered c → BothFit c → IsCell c
 fits_cell empty o f = tt
 fits_cell (bounds a b) o f = ((within_limit a f.0).0, o, (within_limit b f.1).1)
 
-pub cell_fits : (c : Value) → IsCell c → Fits c
+pub cell_fits : (c : Value) → IsCell c → BothFit c
 cell_fits empty h = (refl, refl)
 cell_fits (bounds a b) h = (limit_within a h.0 (omega (arith, ints)), limit_within b (omega (arith, ints)) h.2)
 

@@ -12,7 +12,7 @@ use Rattle.cells.specs.Reading.{read_cell}
 use Rattle.cells.specs.Rules.{Rule, Admitted}
 use Rattle.cells.specs.Scales.{IsScale}
 use Rattle.layouts.specs.Laws.{Laws as LayoutLaws}
-use Rattle.sheet.specs.CallLaws.{Passed, Fits}
+use Rattle.sheet.specs.CallLaws.{Passed, BothFit}
 use Rattle.sheet.specs.declared.shape.Shape.{Shape}
 use Rattle.sheet.specs.Calls.{Call, dot, sum, blend, product, solve, join, copy, permute, alpha_of, beta_of, entry_of}
 use Rattle.sheet.specs.Checks.{checks, worked_rows}
@@ -35,11 +35,11 @@ module _ (cell : CellLaws) (layout : LayoutLaws) (s : Shape) (scale : IsScale s.
       → Tightly s.scale (Reached s call cols (new_column s call cols) i) (new_column s call cols i)
   tight call cols g p = new_tight cell layout s scale u cols g call p (new_column s call cols) (λ j h. refl)
 
-  pub new_cell : (call : Call) (cols : ℕ → ℕ → Value) → AllCells cols → Passed (checks s call) → All (λ i. Fits (new_column s call cols i)) (worked_rows s call)
+  pub new_cell : (call : Call) (cols : ℕ → ℕ → Value) → AllCells cols → Passed (checks s call) → All (λ i. BothFit (new_column s call cols i)) (worked_rows s call)
       → (i : ℕ) → i < s.rows → IsCell (new_column s call cols i)
   new_cell call cols g p f i h =
       ⊎_elim (fits_cell (new_column s call cols i) (tightly_ordered (tight call cols g p i h))) (λ c. c)
-      (settled (λ i. Fits (new_column s call cols i)) s call cols g f i h)
+      (settled (λ i. BothFit (new_column s call cols i)) s call cols g f i h)
 
   -- a member of a smaller set than the one that the cell is tight for
   gives_holds : {S T : Set} {c : Value} {y : Held} → Tightly s.scale T c → Included S T → Gives S y → Holds s.scale c y

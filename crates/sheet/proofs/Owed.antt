@@ -7,7 +7,7 @@ use Rattle.cells.specs.Cells.{IsCell}
 use Rattle.cells.specs.Laws.{Laws as CellLaws}
 use Rattle.cells.specs.Scales.{IsScale}
 use Rattle.layouts.specs.Laws.{Laws as LayoutLaws}
-use Rattle.sheet.specs.CallLaws.{Fits}
+use Rattle.sheet.specs.CallLaws.{BothFit}
 use Rattle.sheet.specs.declared.shape.Shape.{Shape}
 use Rattle.sheet.specs.Answers.{call_answer}
 use Rattle.sheet.specs.Calls.{Call, name, target}
@@ -52,7 +52,7 @@ module _ (cell : CellLaws) (layout : LayoutLaws) (s : Shape) (scale : IsScale s.
         granted_too = λ memory. grants s call' cells' draft' (record {
           memory = memory;
           checked = p';
-          limited = fit_limits (name call') (target call') new' (worked_rows s call') (worked_all layout (λ i. Fits (new' i)) s call' p'
+          limited = fit_limits (name call') (target call') new' (worked_rows s call') (worked_all layout (λ i. BothFit (new' i)) s call' p'
               (λ i h. cell_fits (new' i) (nested_cell (new' i) (new i) (tightly_ordered (tight cell layout s scale u call' (cells_in s cells') (columns_cells s cells') p' i h)) (nests i h) (granted_cells call cells draft e i h))));
         });
         within = λ i h. nested_within s.scale (new' i) (new i) (nests i h);

@@ -20,7 +20,7 @@ pub data Stage : Type 0 where
   working : Stage
   drafted : (k : ℕ) → Stage
 
--- what is asked of a sheet that is open
+-- what is asked of a sheet that is open. Questions are no asks: they change nothing, and no promise speaks of them
 pub data Ask : Type 0 where
   setting : (k i : ℕ) (lower upper : ℤ) → Ask
   beginning : Ask

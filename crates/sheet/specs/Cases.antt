@@ -11,7 +11,7 @@ use Rattle.sheet.specs.declared.refusal.Refusal.TheVariants.{DivisorHoldsZero}
 use Rattle.sheet.specs.declared.shape.Shape.{Shape}
 use Rattle.sheet.specs.Answers.{calling, call_answer, draft_after}
 use Rattle.sheet.specs.Calls.{Meaning, Call, blend, solve}
-use Rattle.sheet.specs.Checks.{Answer, granted, refused, past}
+use Rattle.sheet.specs.Checks.{Answer, granted, refused, past_limit}
 use Rattle.sheet.specs.Memory.{blanks}
 
 abbrev rec : ℤ → ℤ → Record
@@ -73,7 +73,7 @@ abbrev blends : Cases → Cases
 blends rest =
     case (drafted_by (of_two 1 2) blended (at_limit (point 0))) (point 131071 ∷ (point 0 ∷ []))
     -- one step beyond the limit: the upper bound at row 0 is told, and the draft is empty
-    (case (answered (of_two 1 2) blended (at_limit (rec (pos 0) (pos 1)))) (refused (past Blend 1 0 Upper))
+    (case (answered (of_two 1 2) blended (at_limit (rec (pos 0) (pos 1)))) (refused (past_limit Blend 1 0 Upper))
     (case (drafted_by (of_two 1 2) blended (at_limit (rec (pos 0) (pos 1)))) (blanks 2) rest))
 
 abbrev pub cases : Cases

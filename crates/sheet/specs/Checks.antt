@@ -77,10 +77,10 @@ abbrev pub upper_fits : Value → Bool
 upper_fits empty = true
 upper_fits (bounds a b) = not (beyond b)
 
-abbrev pub past : CallName → (k row : ℕ) → Bound → Refusal
-past call k row bound = BeyondLimit (record { call = call; column = k; cell = record { row = row; rounding = record { bound = bound } } })
+abbrev pub past_limit : CallName → (k row : ℕ) → Bound → Refusal
+past_limit call k row bound = BeyondLimit (record { call = call; column = k; cell = record { row = row; rounding = record { bound = bound } } })
 
 -- no bound of a new cell is beyond the limit: row after row, and of each row the lower first
 abbrev pub limits : CallName → (k : ℕ) → (new : ℕ → Value) → (rows : List ℕ) → List Check
 limits call k new [] = []
-limits call k new (row ∷ rows) = check (lower_fits (new row)) (past call k row Lower) ∷ (check (upper_fits (new row)) (past call k row Upper) ∷ limits call k new rows)
+limits call k new (row ∷ rows) = check (lower_fits (new row)) (past_limit call k row Lower) ∷ (check (upper_fits (new row)) (past_limit call k row Upper) ∷ limits call k new rows)

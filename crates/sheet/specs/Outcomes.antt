@@ -1,5 +1,5 @@
 -- What the calls of the code answer and leave, in the words of the model: their contracts.
-use Rattle.std.specs.Prelude.{◌≡◌, ℕ, Bool, cond, List, [], ℤ, Ok, Err, Result, IfOk, ◌<◌}
+use Rattle.std.specs.Prelude.{◌≡◌, ℕ, Bool, true, cond, List, [], ℤ, Ok, Err, Result, IfOk, ◌<◌}
 use Rattle.cells.specs.declared.cell.Record.{Record}
 use Rattle.sheet.specs.declared.refusal.Refusal.{Refusal}
 use Rattle.sheet.specs.declared.shape.Shape.{Shape}
@@ -12,6 +12,7 @@ use Rattle.sheet.specs.declared.states.Working.{Working}
 use Rattle.sheet.specs.Answers.{Stage, filling, working, drafted, Ask, setting, beginning, calling, posting, withdrawing, open_answer, set_answer, call_answer, answer, stage_after, cells_after, draft_after, cells_opened, draft_opened}
 use Rattle.sheet.specs.Calls.{Call, target}
 use Rattle.sheet.specs.Checks.{Answer, granted, refused}
+use Rattle.sheet.specs.Memory.{has_both}
 
 -- an answer, and the stage and the shape of the sheet that is handed on or handed back with it
 pub record Outcome : Type 0 where
@@ -50,7 +51,7 @@ abbrev pub answered_call : Result Drafted Refused → Outcome
 answered_call (Ok d) = record { answer = granted; stage = stage_of d; shape = d.shape }
 answered_call (Err e) = record { answer = refused e.refusal; stage = working; shape = e.sheet.shape }
 
--- a sheet that is handed back is drafted as it was, and its draft is spent no more than it was
+-- a sheet that is handed back is drafted as it was; its flag is told apart, by `StillStands`
 abbrev pub answered_close : Result Working StillDrafted → Outcome
 answered_close (Ok w) = record { answer = granted; stage = working; shape = w.shape }
 answered_close (Err e) = record { answer = refused e.refusal; stage = drafted e.sheet.column; shape = e.sheet.shape }
@@ -59,13 +60,15 @@ abbrev pub StillStands : Bool → Result Working StillDrafted → Type 0
 StillStands spent (Ok w) = Unit {0}
 StillStands spent (Err e) = e.sheet.spent ≡ spent
 
--- ---- the whole of what each call answers and leaves: the contracts of the code
+-- ---- the whole of what each call answers and leaves: the contracts of the code. That a call is granted says besides that what it leaves
+-- is memory of the right size for the next one, so that a caller need not open the equations for it
 
 -- Filling::open, supplied the cells and the draft, which it leaves as cells' and draft'
 pub record Opens (s : Shape) (cells draft : List Record) (result : Result Filling Refusal) (cells' draft' : List Record) : Type 0 where
   pub answers : answered_open result ≡ shape_or s (open_answer s cells draft)
   pub leaves_cells : cells' ≡ cells_opened s cells (open_answer s cells draft)
   pub leaves_draft : draft' ≡ draft_opened s draft (open_answer s cells draft)
+  pub right_size : IfOk result (λ f. has_both s cells' draft' ≡ true)
 
 -- Filling::set, supplied the cells
 pub record Sets (s : Shape) (k row : ℕ) (lower upper : ℤ) (cells : List Record) (result : Result (Unit {0}) Refusal) (cells' : List Record) : Type 0 where
@@ -80,20 +83,24 @@ pub record Begins (s : Shape) (cells : List Record) (result : Result Working Not
 pub record Calls (s : Shape) (call : Call) (cells draft : List Record) (result : Result Drafted Refused) (draft' : List Record) : Type 0 where
   pub answers : answered_call result ≡ outcome s working (calling call) cells draft
   pub leaves_draft : draft' ≡ draft_after s (calling call) cells draft (call_answer s call cells draft)
+  pub right_size : IfOk result (λ d. has_both s cells draft' ≡ true)
 
 -- the same before there is a state for it
 pub record Drafts (s : Shape) (call : Call) (cells draft : List Record) (result : Result (Unit {0}) Refusal) (draft' : List Record) : Type 0 where
   pub answers : answer_of result ≡ call_answer s call cells draft
   pub leaves_draft : draft' ≡ draft_after s (calling call) cells draft (call_answer s call cells draft)
   pub aims : IfOk result (λ u. target call < s.columns)
+  pub right_size : IfOk result (λ u. has_both s cells draft' ≡ true)
 
 -- Drafted::post of a draft for column k, supplied both; one that is refused is handed back with its draft standing
 pub record Posts (s : Shape) (k : ℕ) (cells draft : List Record) (result : Result Working StillDrafted) (cells' draft' : List Record) : Type 0 where
   pub answers : answered_close result ≡ outcome s (drafted k) posting cells draft
   pub leaves_cells : cells' ≡ cells_after s (drafted k) posting cells draft (answer s (drafted k) posting cells draft)
   pub leaves_draft : draft' ≡ draft_after s posting cells draft (answer s (drafted k) posting cells draft)
+  pub right_size : IfOk result (λ w. has_both s cells' draft' ≡ true)
 
 -- Drafted::withdraw, supplied both, of which it writes the draft
 pub record Withdraws (s : Shape) (k : ℕ) (cells draft : List Record) (result : Result Working StillDrafted) (draft' : List Record) : Type 0 where
   pub answers : answered_close result ≡ outcome s (drafted k) withdrawing cells draft
   pub leaves_draft : draft' ≡ draft_after s withdrawing cells draft (answer s (drafted k) withdrawing cells draft)
+  pub right_size : IfOk result (λ w. has_both s cells draft' ≡ true)

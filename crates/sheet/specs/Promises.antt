@@ -112,7 +112,8 @@ pub data Inner (s : Shape) : (h' h : List Event) → Type 0 where
   both_asked : {h h' : List Event} {ask ask' : Ask} {cells draft cells' draft' : List Record} {a' : Answer} → Inner s h' h → AskInside s.scale ask' ask
       → Inner s (told ask' cells' draft' a' ∷ h') (told ask cells draft granted ∷ h)
 
--- every call since the begin was supplied the memory that this run held then
+-- all that was asked since the begin was supplied the memory that this run held then: of what was granted `Ran` says so, so that
+-- something is said here of what was turned away only
 abbrev pub OwnMemory : (s : Shape) {h : List Event} {stage : Stage} {cells draft : List Record} → Ran s h stage cells draft → Type 0
 OwnMemory s (opened cells draft e) = Unit {0}
 OwnMemory s (went_on ask r sets e) = Unit {0}
@@ -207,8 +208,8 @@ abbrev pub Beside : Type 0
 Beside = (s : Shape) (h : List Event) (stage : Stage) (cells draft : List Record) → Ran s h stage cells draft → Begun stage → AllTell h
     → (xs : ℕ → ℕ → Held) × (ys : ℕ → Held) × ExactRun s h stage xs ys
 
--- and every exact run goes on beside a granted call with every choice of alpha, beta and the entries. It starts with every choice
--- inside the cells that were set, and nothing else is chosen
+-- and every exact run goes on beside a granted call with every choice of alpha, beta and the entries; `starts` of ExactRun takes
+-- every choice inside the cells that were set
 abbrev pub EveryChoice : Type 0
 EveryChoice = (s : Shape) (h : List Event) (call : Call) (cells before : List Record) (stage : Stage) (after draft : List Record) → Ran s (told (calling call) cells before granted ∷ h) stage after draft → CallTells call
     → (xs : ℕ → ℕ → Held) (ys : ℕ → Held) → ExactRun s h working xs ys → (choice : Choice s call)

@@ -13,13 +13,14 @@ pub data Event : Type 0 where
   told : Ask → (cells draft : List Record) → Answer → Event
 
 -- Ran s history stage cells draft: a sheet of shape s, told the history (newest first), is at the stage and has left this memory.
--- Whatever is granted, and whatever empties the draft, was supplied the memory that stood there; what else is refused changes
--- nothing, whatever memory it was supplied
+-- What is granted, and what is refused with the draft emptied, was supplied the memory that stood there. What is refused otherwise
+-- changes nothing; it may have been supplied this memory or any other
 pub data Ran (s : Shape) : (history : List Event) → Stage → (cells draft : List Record) → Type 0 where
   opened : (cells draft : List Record) → open_answer s cells draft ≡ granted → Ran s [] filling (blanks (s.rows * s.columns)) (blanks s.rows)
   went_on : {h : List Event} {stage : Stage} {cells draft : List Record} (ask : Ask) → Ran s h stage cells draft → Takes stage ask
       → answer s stage ask cells draft ≡ granted
       → Ran s (told ask cells draft granted ∷ h) (stage_after stage ask granted) (cells_after s stage ask cells draft granted) (draft_after s ask cells draft granted)
+  -- before a call no draft stands, so this leaves the memory as open, post or withdraw left it
   lost_draft : {h : List Event} {stage : Stage} {cells draft : List Record} (ask : Ask) (refusal : Refusal) → Ran s h stage cells draft → Takes stage ask
       → answer s stage ask cells draft ≡ refused refusal → empties_draft refusal ≡ true
       → Ran s (told ask cells draft (refused refusal) ∷ h) stage cells (blanks s.rows)
