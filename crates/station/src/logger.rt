@@ -1,6 +1,6 @@
 // What the logger holds of a line, in the order of its channels, and the same in the order of the tips.
-ghost use Rattle.std.specs.Prelude.{IfOk};
-ghost use Rattle.sheet.specs.Permutations.{Gathers};
+ghost use Rattle.std.specs.Prelude.{◌≡◌, true, IsOk, IfOk};
+ghost use Rattle.sheet.specs.Permutations.{is_permutation, Gathers};
 
 use crate::line::TIPS;
 use cells::cell::Record;
@@ -16,7 +16,8 @@ pub struct Logged {
 
 // Tip by tip, where `channels` has the channel of each tip. Refused where it names a channel twice or one that there is not.
 pub fn by_tip(logged: &Logged, channels: &[usize; TIPS]) -> Result<Logged, Refusal>
-    ensures { IfOk result (λ tips. Gathers logged.now.instruments channels.now tips.instruments × Gathers logged.now.readings channels.now tips.readings) }
+    ensures granted { is_permutation TIPS channels.now ≡ true → IsOk result }
+    ensures in_order { IfOk result (λ tips. Gathers logged.now.instruments channels.now tips.instruments × Gathers logged.now.readings channels.now tips.readings) }
 {
     let mut tips = *logged;
     permute_run(&logged.instruments, channels, &mut tips.instruments)?;
