@@ -11,15 +11,18 @@ use Rattle.sheet.proofs.Keeping.{legal}
 use Rattle.sheet.proofs.Nearing.{tight, close}
 use Rattle.sheet.proofs.Nesting.{nested, second}
 use Rattle.sheet.proofs.Owes.{Owes}
-use Rattle.sheet.proofs.Standing.{fitting, posting_moves}
+use Rattle.sheet.proofs.Standing.{fitting, posted_from, withdrawing_moves, draft_empty, starting}
 use Rattle.sheet.proofs.Tellers.{meet_tells, hull_tells}
 
 pub promises : Laws → ((s : Shape) → Legal s → Owes s) → Promises
 promises laws owes = record {
+  starts = starting;
   goes_on = going_on;
   keeps_length = λ s h stage cells draft r. fitting s (owes s (legal r)) r;
   stands_as_set = λ s h cells draft r. filled laws s (owes s (legal r)) r refl;
-  post_moves_draft = λ s h k cells draft r j row a b. posting_moves s (owes s (legal r)) r j row b;
+  keeps_draft_empty = λ s h stage cells draft r n. draft_empty s r n;
+  post_moves_draft = λ s h cells draft stage after empty_draft r. posted_from s (owes s (legal r)) r;
+  withdraw_moves_nothing = λ s h cells draft stage after empty_draft r. withdrawing_moves s r;
   contains = λ s h stage cells draft xs ys r x. let c = contained laws s (owes s (legal r)) r x in (c.columns_hold, c.draft_holds);
   close = λ s h call cells before stage after draft r. close laws s (owes s (legal r)) r;
   tight = λ s h call cells before stage after draft r. tight laws s (owes s (legal r)) r;

@@ -1,5 +1,5 @@
 -- What a sheet answers to what is asked of it, and what each answer leaves of its stage, its cells and its draft.
-use Rattle.std.specs.Prelude.{ℕ, ◌+◌, ◌*◌, Bool, true, false, cond, not, List, [], ◌∷◌, ℤ, slice_set}
+use Rattle.std.specs.Prelude.{◌==◌, ℕ, ◌+◌, ◌*◌, Bool, true, false, cond, not, List, [], ◌∷◌, ℤ, slice_set}
 use Rattle.arithmetic.specs.Values.{bounds}
 use Rattle.cells.specs.declared.cell.Record.{Record}
 use Rattle.cells.specs.Cells.{broken, written}
@@ -12,6 +12,7 @@ use Rattle.sheet.specs.Calls.{Call, name, target}
 use Rattle.sheet.specs.Checks.{check, Answer, granted, refused, first_refusal, column_named, row_named, checks, worked_rows, limits}
 use Rattle.sheet.specs.Memory.{has_cells, has_both, cells_in, blanks, written_rows, with_column}
 use Rattle.sheet.specs.NewColumns.{new_column}
+use Rattle.sheet.specs.Refusals.{number}
 use Rattle.sheet.specs.Shapes.{legal_scale, legal_size}
 
 -- the three states of a sheet: filled with set, working, and drafted for a column
@@ -98,18 +99,9 @@ cells_after s stage (calling call) cells draft granted = cells
 cells_after s stage posting cells draft granted = with_column s (drafted_for stage) cells draft
 cells_after s stage withdrawing cells draft granted = cells
 
--- of all refusals only the one for a bound beyond the limit comes after the draft is written; it leaves the draft empty
+-- only the refusal for a bound beyond the limit empties the draft
 abbrev pub empties_draft : Refusal → Bool
-empties_draft ScaleOutside = false
-empties_draft ShapeOutside = false
-empties_draft (WrongLength call column) = false
-empties_draft (NoSuchColumn call column) = false
-empties_draft (NoSuchRow call column row) = false
-empties_draft (NoCell column) = false
-empties_draft (LayoutTooLarge call column) = false
-empties_draft (DivisorHoldsZero column row) = false
-empties_draft (NoPermutation call column) = false
-empties_draft (BeyondLimit fault) = true
+empties_draft refusal = number refusal == 10
 
 abbrev pub draft_after : Shape → Ask → (cells draft : List Record) → Answer → List Record
 draft_after s ask cells draft (refused refusal) = cond (empties_draft refusal) (blanks s.rows) draft

@@ -1,5 +1,5 @@
 -- What every run of a sheet keeps, whatever it is told: the promises.
-use Rattle.std.specs.Prelude.{◌≡◌, ℕ, ◌<◌, true, cond, List, [], ◌∷◌, ℤ, ◌==◌}
+use Rattle.std.specs.Prelude.{◌≡◌, ℕ, ◌*◌, ◌<◌, true, cond, List, [], ◌∷◌, ℤ, ◌==◌}
 use Rattle.arithmetic.specs.Sets.{Set}
 use Rattle.arithmetic.specs.Tight.{Near}
 use Rattle.arithmetic.specs.Values.{Value, empty, bounds, Within, Tightly}
@@ -16,7 +16,8 @@ use Rattle.sheet.specs.Calls.{Meaning, Call, dot, sum, blend, product, solve, jo
 use Rattle.sheet.specs.Checks.{Answer, granted, refused}
 use Rattle.sheet.specs.ExactRuns.{last_set, Choice, Follows, ExactRun}
 use Rattle.sheet.specs.Formulas.{Reached, Gives}
-use Rattle.sheet.specs.Memory.{has_both, cells_in, with_column}
+use Rattle.sheet.specs.Memory.{has_both, cells_in, blanks}
+use Rattle.sheet.specs.Shapes.{Legal}
 use Rattle.sheet.specs.Runs.{Event, told, Ran, opened, went_on, lost_draft, turned_away}
 
 -- ---- contains: the exact values lie inside the cells
@@ -47,10 +48,29 @@ abbrev pub StandsAsSet : Type 0
 StandsAsSet = (s : Shape) (h : List Event) (cells draft : List Record) → Ran s h filling cells draft
     → (k row : ℕ) → k < s.columns → row < s.rows → cells_in s cells k row ≡ last_set h k row
 
--- after a post the column is the draft, and the other columns are as they were
+-- while no draft stands, the draft's memory is empty
+abbrev pub NoDraft : Stage → Type 0
+NoDraft filling = Unit {0}
+NoDraft working = Unit {0}
+NoDraft (drafted k) = ⊥
+
+abbrev pub KeepsDraftEmpty : Type 0
+KeepsDraftEmpty = (s : Shape) (h : List Event) (stage : Stage) (cells draft : List Record) → Ran s h stage cells draft → NoDraft stage → draft ≡ blanks s.rows
+
+-- a post is made of a draft that stood for some column k: after it column k is that draft, and the other columns are as they were
+pub record PostedFrom (s : Shape) (h : List Event) (cells draft after : List Record) : Type 0 where
+  pub k : ℕ
+  pub before : Ran s h (drafted k) cells draft
+  pub moved : (j row : ℕ) → j < s.columns → row < s.rows → cells_in s after j row ≡ cond (j == k) (cell_at draft row) (cells_in s cells j row)
+
 abbrev pub PostMovesDraft : Type 0
-PostMovesDraft = (s : Shape) (h : List Event) (k : ℕ) (cells draft : List Record) → Ran s h (drafted k) cells draft
-    → (j row : ℕ) → j < s.columns → row < s.rows → cells_in s (with_column s k cells draft) j row ≡ cond (j == k) (cell_at draft row) (cells_in s cells j row)
+PostMovesDraft = (s : Shape) (h : List Event) (cells draft : List Record) (stage : Stage) (after empty_draft : List Record)
+    → Ran s (told posting cells draft granted ∷ h) stage after empty_draft → PostedFrom s h cells draft after
+
+-- a withdraw leaves every column as it was
+abbrev pub WithdrawMovesNothing : Type 0
+WithdrawMovesNothing = (s : Shape) (h : List Event) (cells draft : List Record) (stage : Stage) (after empty_draft : List Record)
+    → Ran s (told withdrawing cells draft granted ∷ h) stage after empty_draft → after ≡ cells
 
 -- ---- close and tight: the cells are no wider than whole steps make them
 
@@ -165,6 +185,11 @@ SecondRun = (s : Shape) (h : List Event) (stage : Stage) (cells draft : List Rec
     → (h' : List Event) (start' draft' supplied : List Record) → Ran s (told beginning start' supplied granted ∷ h') working start' draft' → ColumnsWithin s start' start
     → RunInside s asks (told beginning start' supplied granted ∷ h') stage cells draft
 
+-- ---- starts: a sheet of every legal shape can be opened
+
+abbrev pub Starts : Type 0
+Starts = (s : Shape) → Legal s → Ran s [] filling (blanks (s.rows * s.columns)) (blanks s.rows)
+
 -- ---- goes on: whatever a stage takes is answered, and the run goes on with what the answer leaves
 
 abbrev pub GoesOn : Type 0
@@ -216,10 +241,13 @@ EveryChoice = (s : Shape) (h : List Event) (call : Call) (cells before : List Re
     → (new : ℕ → Held) × Follows s call choice xs new
 
 pub record Promises : Type 0 where
+  pub starts : Starts
   pub goes_on : GoesOn
   pub keeps_length : KeepsLength
   pub stands_as_set : StandsAsSet
+  pub keeps_draft_empty : KeepsDraftEmpty
   pub post_moves_draft : PostMovesDraft
+  pub withdraw_moves_nothing : WithdrawMovesNothing
   pub contains : Contains
   pub close : Close
   pub tight : TightDrafts
