@@ -1,5 +1,5 @@
 -- The laws of the calls: the working order, the equations of a solve, and which row a refusal names. They rest on the laws of layouts.
-use Rattle.std.specs.Prelude.{◌≡◌, ℕ, List, [], ◌∷◌}
+use Rattle.std.specs.Prelude.{ℕ, List, [], ◌∷◌}
 use Rattle.arithmetic.specs.Values.{Value}
 use Rattle.layouts.specs.Laws.{Laws}
 use Rattle.sheet.specs.declared.refusal.CallName.{CallName}

@@ -8,7 +8,7 @@ use Rattle.sheet.specs.declared.states.Filling.{Filling}
 use Rattle.sheet.specs.Answers.{Stage, filling, working, drafted, Ask, setting, beginning, calling, posting, withdrawing, Takes, sets, begins, calls, posts, withdraws, open_answer, set_answer, begin_answer, call_answer, answer, stage_after, cells_after, draft_after, cells_opened, draft_opened, empties_draft}
 use Rattle.sheet.specs.Calls.{Call}
 use Rattle.sheet.specs.Checks.{Answer, granted, refused}
-use Rattle.sheet.specs.Histories.{GoesOnTo, StaysBeside, setting_outcome, Histories}
+use Rattle.sheet.specs.Histories.{GoesOnTo, StaysAsItWas, setting_outcome, Histories}
 use Rattle.sheet.specs.Outcomes.{Outcome, outcome, shape_or, answered_open, answer_of, answered_begin, answered_call, answered_close, Opens}
 use Rattle.sheet.specs.Runs.{Event, told, Ran, opened, turned_away}
 use Rattle.sheet.proofs.Answering.{OfCall, only_calls}
@@ -70,7 +70,7 @@ module _ (s : Shape) (stage : Stage) (ask : Ask) (t : Takes stage ask) (others o
   abbrev b : Answer
   b = answer s stage ask others other_draft
 
-  kept_aside : (a : Answer) (others' other_draft' : List Record) → a ≡ b → others' ≡ cells_after s stage ask others other_draft b → other_draft' ≡ draft_after s ask others other_draft b → StaysBeside s stage ask others other_draft a others' other_draft'
+  kept_aside : (a : Answer) (others' other_draft' : List Record) → a ≡ b → others' ≡ cells_after s stage ask others other_draft b → other_draft' ≡ draft_after s ask others other_draft b → StaysAsItWas s stage ask others other_draft a others' other_draft'
   kept_aside a others' other_draft' e f g refusal is z =
       let answered : b ≡ refused refusal = sym e ∙ is in
       (f ∙ ap (cells_after s stage ask others other_draft) answered, g ∙ ap (draft_after s ask others other_draft) answered ∙ (rw z refl), λ h cells draft r. turned_away ask others other_draft refusal r t answered z)

@@ -13,13 +13,13 @@ use Rattle.cells.specs.declared.cell.Record.{Record}
 use Rattle.cells.specs.Cells.{IsCell}
 use Rattle.cells.specs.Quotients.{zero_in}
 use Rattle.layouts.specs.Matrix.{Matrix}
-use Rattle.sheet.specs.CallLaws.{Passed, BothFit, AllFit}
+use Rattle.sheet.specs.CallLaws.{Passed, BothFit}
 use Rattle.sheet.specs.declared.refusal.CallName.{CallName}
 use Rattle.sheet.specs.declared.refusal.Refusal.TheVariants.{WrongLength}
 use Rattle.sheet.specs.declared.shape.Shape.{Shape}
 use Rattle.sheet.specs.Answers.{call_answer}
 use Rattle.sheet.specs.Calls.{Call, name, target}
-use Rattle.sheet.specs.Checks.{Check, check, Answer, granted, first_refusal, divides, checks, worked_rows, lower_fits, upper_fits, limits}
+use Rattle.sheet.specs.Checks.{Check, check, Answer, granted, first_refusal, divides, checks, worked_rows, limits}
 use Rattle.sheet.specs.Memory.{has_both, cells_in}
 use Rattle.sheet.specs.NewColumns.{new_column}
 

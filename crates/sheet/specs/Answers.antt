@@ -1,12 +1,12 @@
 -- What a sheet answers to what is asked of it, and what each answer leaves of its stage, its cells and its draft.
-use Rattle.std.specs.Prelude.{◌==◌, ℕ, ◌+◌, ◌*◌, Bool, true, false, cond, not, List, [], ◌∷◌, ℤ, slice_set}
+use Rattle.std.specs.Prelude.{◌==◌, ℕ, ◌+◌, ◌*◌, Bool, cond, not, List, [], ◌∷◌, ℤ, slice_set}
 use Rattle.arithmetic.specs.Values.{bounds}
 use Rattle.cells.specs.declared.cell.Record.{Record}
 use Rattle.cells.specs.Cells.{broken, written}
 use Rattle.sheet.specs.declared.refusal.CallName.{CallName}
 use Rattle.sheet.specs.declared.refusal.CallName.TheVariants.{Open, Set, Begin, Post, Withdraw}
 use Rattle.sheet.specs.declared.refusal.Refusal.{Refusal}
-use Rattle.sheet.specs.declared.refusal.Refusal.TheVariants.{ScaleOutside, ShapeOutside, WrongLength, NoSuchColumn, NoSuchRow, NoCell, LayoutTooLarge, DivisorHoldsZero, NoPermutation, BeyondLimit}
+use Rattle.sheet.specs.declared.refusal.Refusal.TheVariants.{ScaleOutside, ShapeOutside, WrongLength, NoCell}
 use Rattle.sheet.specs.declared.shape.Shape.{Shape}
 use Rattle.sheet.specs.Calls.{Call, name, target}
 use Rattle.sheet.specs.Checks.{check, Answer, granted, refused, first_refusal, column_named, row_named, checks, worked_rows, limits}

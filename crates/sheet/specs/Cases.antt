@@ -11,7 +11,7 @@ use Rattle.sheet.specs.declared.refusal.Refusal.TheVariants.{DivisorHoldsZero}
 use Rattle.sheet.specs.declared.shape.Shape.{Shape}
 use Rattle.sheet.specs.Answers.{calling, call_answer, draft_after}
 use Rattle.sheet.specs.Calls.{Meaning, Call, blend, solve}
-use Rattle.sheet.specs.Checks.{Answer, granted, refused, past_limit}
+use Rattle.sheet.specs.Checks.{Answer, refused, past_limit}
 use Rattle.sheet.specs.Memory.{blanks}
 
 abbrev rec : ℤ → ℤ → Record

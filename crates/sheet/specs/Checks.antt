@@ -41,7 +41,7 @@ row_named s call k i = check (nat_lt i s.rows) (NoSuchRow call k i)
 abbrev pub has_room : Shape → CallName → (k : ℕ) → Matrix → Check
 has_room s call k m = check (nat_le m.rows s.rows && nat_le m.columns s.rows) (LayoutTooLarge call k)
 
--- the diagonal entry of a row does not hold 0; an empty one does not
+-- the diagonal entry of a row does not hold 0; the empty cell holds nothing, so it does not either
 abbrev pub divides : (k : ℕ) → Matrix → (row : ℕ) → Check
 divides k m row = check (not (zero_in (m.entry row row))) (DivisorHoldsZero k row)
 

@@ -21,8 +21,8 @@ abbrev pub GoesOnTo : (s : Shape) (h : List Event) → Stage → Ask → (cells 
 GoesOnTo s h stage ask cells draft o cells' draft' = Ran s h stage cells draft → Ran o.shape (told ask cells draft o.answer ∷ h) o.stage cells' draft'
 
 -- a run stays where it was, with the refused ask added, and so does the other memory that was supplied
-abbrev pub StaysBeside : (s : Shape) → Stage → Ask → (others other_draft : List Record) → Answer → (others' other_draft' : List Record) → Type 0
-StaysBeside s stage ask others other_draft a others' other_draft' = (refusal : Refusal) → a ≡ refused refusal → empties_draft refusal ≡ false
+abbrev pub StaysAsItWas : (s : Shape) → Stage → Ask → (others other_draft : List Record) → Answer → (others' other_draft' : List Record) → Type 0
+StaysAsItWas s stage ask others other_draft a others' other_draft' = (refusal : Refusal) → a ≡ refused refusal → empties_draft refusal ≡ false
     → (others' ≡ others) × (other_draft' ≡ other_draft) × ((h : List Event) (cells draft : List Record) → Ran s h stage cells draft → Ran s (told ask others other_draft (refused refusal) ∷ h) stage cells draft)
 
 -- set is answered while the sheet is filled, and the sheet stays so
@@ -44,12 +44,12 @@ pub record Histories : Type 0 where
       → (h : List Event) → GoesOnTo s h (drafted k) withdrawing cells draft (answered_close result) cells draft'
   -- over other memory
   pub set_aside : (s : Shape) (k row : ℕ) (lower upper : ℤ) (others : List Record) (result : Result (Unit {0}) Refusal) (others' : List Record) → Sets s k row lower upper others result others'
-      → (draft : List Record) → StaysBeside s filling (setting k row lower upper) others draft (answer_of result) others' draft
+      → (draft : List Record) → StaysAsItWas s filling (setting k row lower upper) others draft (answer_of result) others' draft
   pub begin_aside : (s : Shape) (others : List Record) (result : Result Working NotBegun) → Begins s others result
-      → (draft : List Record) → StaysBeside s filling beginning others draft (answered_begin result).answer others draft
+      → (draft : List Record) → StaysAsItWas s filling beginning others draft (answered_begin result).answer others draft
   pub call_aside : (s : Shape) (call : Call) (others other_draft : List Record) (result : Result Drafted Refused) (other_draft' : List Record) → Calls s call others other_draft result other_draft'
-      → StaysBeside s working (calling call) others other_draft (answered_call result).answer others other_draft'
+      → StaysAsItWas s working (calling call) others other_draft (answered_call result).answer others other_draft'
   pub post_aside : (s : Shape) (k : ℕ) (others other_draft : List Record) (result : Result Working StillDrafted) (others' other_draft' : List Record) → Posts s k others other_draft result others' other_draft'
-      → StaysBeside s (drafted k) posting others other_draft (answered_close result).answer others' other_draft'
+      → StaysAsItWas s (drafted k) posting others other_draft (answered_close result).answer others' other_draft'
   pub withdraw_aside : (s : Shape) (k : ℕ) (others other_draft : List Record) (result : Result Working StillDrafted) (other_draft' : List Record) → Withdraws s k others other_draft result other_draft'
-      → StaysBeside s (drafted k) withdrawing others other_draft (answered_close result).answer others other_draft'
+      → StaysAsItWas s (drafted k) withdrawing others other_draft (answered_close result).answer others other_draft'

@@ -7,8 +7,8 @@ use Rattle.sheet.specs.Answers.{Stage, filling, Ask, Takes, open_answer, answer,
 use Rattle.sheet.specs.Checks.{Answer, granted, refused}
 use Rattle.sheet.specs.Memory.{blanks}
 
--- what was asked, the memory that was supplied with it, and the answer. Set and begin are supplied no draft: what stands in its
--- place in their events is looked at by nothing
+-- what was asked, the memory that was supplied with it, and the answer. Set and begin are supplied no draft: no answer
+-- looks at what stands in its place in their events
 pub data Event : Type 0 where
   told : Ask → (cells draft : List Record) → Answer → Event
 

@@ -1,4 +1,4 @@
-// The checks that calls share, and the columns of the supplied memory.
+// The lengths of the supplied memory, and the columns in it.
 ghost use Rattle.std.specs.Prelude.{◌≡◌, ◌<◌, ◌+◌, ◌*◌, ◌≤◌, length, replicate};
 ghost use Rattle.cells.specs.Cells.{blank};
 ghost use Rattle.sheet.specs.Checks.{granted, first_refusal, column_named, row_named};

@@ -1,9 +1,9 @@
 // What working and drafted sheets are asked. The columns answer as they stand, also while a draft stands.
 ghost use Rattle.std.specs.Prelude.{◌≡◌, ◌<◌, true, [], ◌∷◌, Some, None, MatchResult};
 ghost use Rattle.cells.specs.Cells.{cell_value};
-ghost use Rattle.sheet.specs.Checks.{row_named};
+ghost use Rattle.sheet.specs.Checks.{granted, refused, first_refusal, row_named};
 ghost use Rattle.sheet.specs.Memory.{has_cells, column, cells_in};
-ghost use Rattle.sheet.specs.Questions.{first_failed, first_column, one_norm_answer, infinity_norm_answer, largest_answer, smallest_answer, width_answer, middle_answer, enclosed_answer};
+ghost use Rattle.sheet.specs.Questions.{first_column, one_norm_answer, infinity_norm_answer, largest_answer, smallest_answer, width_answer, middle_answer, enclosed_answer};
 ghost use Rattle.sheet.specs.Shapes.{Legal};
 
 use crate::column;
@@ -17,13 +17,13 @@ use cells::reading::cell_at;
 // and nothing of its memory, which is supplied with each question.
 #[derive(Clone, Copy)]
 pub struct Questions {
-    pub shape: Shape,
+    pub(crate) shape: Shape,
     ghost legal: { Legal shape },
 }
 
 impl Questions {
     fn column(self, call: CallName, k: usize, cells: &[Record]) -> Result<&[Record], Refusal>
-        ensures { MatchResult result (λ c. (has_cells self.shape cells.now ≡ true) × (k < self.shape.columns) × (c.now ≡ column self.shape cells.now k)) (λ r. first_failed (first_column self.shape call cells.now k []) ≡ Some r) }
+        ensures { MatchResult result (λ c. (has_cells self.shape cells.now ≡ true) × (k < self.shape.columns) × (c.now ≡ column self.shape cells.now k)) (λ r. first_refusal (first_column self.shape call cells.now k []) granted ≡ refused r) }
     {
         if !self.shape.has_cells(cells) {
             return Err(Refusal::WrongLength { call, column: k });
@@ -35,7 +35,7 @@ impl Questions {
     }
 
     fn cell(self, call: CallName, k: usize, row: usize, cells: &[Record]) -> Result<Cell, Refusal>
-        ensures { MatchResult result (λ c. (has_cells self.shape cells.now ≡ true) × (k < self.shape.columns) × (row < self.shape.rows) × (cell_value c ≡ cells_in self.shape cells.now k row)) (λ r. first_failed (first_column self.shape call cells.now k (row_named self.shape call k row ∷ [])) ≡ Some r) }
+        ensures { MatchResult result (λ c. (has_cells self.shape cells.now ≡ true) × (k < self.shape.columns) × (row < self.shape.rows) × (cell_value c ≡ cells_in self.shape cells.now k row)) (λ r. first_refusal (first_column self.shape call cells.now k (row_named self.shape call k row ∷ [])) granted ≡ refused r) }
     {
         let column = self.column(call, k, cells)?;
         if row >= self.shape.rows {

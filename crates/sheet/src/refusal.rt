@@ -53,12 +53,12 @@ pub enum Refusal {
         call: CallName,
         column: usize,
     },
-    // 4
+    // 4: the column that is told is not below the number of columns
     NoSuchColumn {
         call: CallName,
         column: usize,
     },
-    // 5
+    // 5: the row is not below the number of rows
     NoSuchRow {
         call: CallName,
         column: usize,

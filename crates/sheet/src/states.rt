@@ -110,3 +110,20 @@ pub struct StillDrafted {
     pub refusal: Refusal,
     pub sheet: Drafted,
 }
+
+// Where the sheet is given up with the call, `?` hands on the refusal alone. A drafted sheet cannot be given up.
+impl From<NotBegun> for Refusal {
+    ghost from_gives = { λ e r. r ≡ e.refusal };
+
+    fn from(refused: NotBegun) -> Refusal {
+        refused.refusal
+    }
+}
+
+impl From<Refused> for Refusal {
+    ghost from_gives = { λ e r. r ≡ e.refusal };
+
+    fn from(refused: Refused) -> Refusal {
+        refused.refusal
+    }
+}
