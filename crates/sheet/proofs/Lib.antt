@@ -21,6 +21,7 @@ pub mod Nesting
 pub mod Orders
 pub mod Owed
 pub mod Owes
+pub mod RefusalLawful
 pub mod Sized
 pub mod Solving
 pub mod Standing

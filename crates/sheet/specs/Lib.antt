@@ -15,6 +15,7 @@ pub mod Outcomes
 pub mod Permutations
 pub mod Promises
 pub mod Questions
+pub mod RefusalLaws
 pub mod Refusals
 pub mod Runs
 pub mod Shapes

@@ -6,6 +6,7 @@ ghost use Rattle.sheet.specs.Cases.{cases};
 ghost use Rattle.sheet.specs.ColumnLaws.{ColumnLaws};
 ghost use Rattle.sheet.specs.Histories.{Histories};
 ghost use Rattle.sheet.specs.Promises.{Promises};
+ghost use Rattle.sheet.specs.RefusalLaws.{RefusalLaws};
 
 // The promises, over every list of what a sheet can be asked. They rest on the laws of cells and of layouts.
 pub fn promises_hold()
@@ -24,6 +25,13 @@ pub fn runs_go_on()
 // for a bound beyond the limit names the first one, and a call is granted where all checks pass and nowhere else.
 pub fn calls_stand()
     ensures { CallLaws }
+{
+    layouts::laws::laws_stand();
+}
+
+// When each call is granted, and what each refusal tells, in the words of the subject: these laws hold the table of checks.
+pub fn refusals_stand()
+    ensures { RefusalLaws }
 {
     layouts::laws::laws_stand();
 }
