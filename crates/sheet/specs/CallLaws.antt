@@ -13,7 +13,7 @@ use Rattle.layouts.specs.Rows.{solve_cell}
 use Rattle.sheet.specs.declared.shape.Shape.{Shape}
 use Rattle.sheet.specs.Answers.{call_answer}
 use Rattle.sheet.specs.Calls.{Call, name, target}
-use Rattle.sheet.specs.Checks.{Check, check, granted, refused, checks, worked_rows, lower_fits, upper_fits, past_limit}
+use Rattle.sheet.specs.Checks.{Check, check, refused, checks, worked_rows, lower_fits, upper_fits, past_limit}
 use Rattle.sheet.specs.Memory.{has_both, cells_in}
 use Rattle.sheet.specs.NewColumns.{solution, new_column}
 
@@ -25,11 +25,6 @@ Passed (check passes refusal ∷ rest) = (passes ≡ true) × Passed rest
 -- neither bound of the cell is beyond the limit
 abbrev pub BothFit : Value → Type 0
 BothFit c = (lower_fits c ≡ true) × (upper_fits c ≡ true)
-
--- and so of the new cells at all these rows
-abbrev pub AllFit : (new : ℕ → Value) (rows : List ℕ) → Type 0
-AllFit new [] = Unit {0}
-AllFit new (row ∷ rows) = BothFit (new row) × AllFit new rows
 
 -- this bound of the cell is beyond the limit; where both are, it is the lower
 abbrev pub PastAt : Value → Bound → Type 0
@@ -60,7 +55,6 @@ pub record CallLaws : Type 0 where
   -- the solution solves its equations, and on the rows of the matrix nothing else does
   pub solution_solves : (side : Side) (m : Matrix) (alpha : Value) (x : ℕ → Value) → Solves side m alpha x (solution side m alpha x)
   pub solution_only : (side : Side) (m : Matrix) (alpha : Value) (x z : ℕ → Value) → Solves side m alpha x z → (i : ℕ) → i < m.rows → z i ≡ solution side m alpha x i
-  -- refusal 10 names the first bound, in working order, that is beyond the limit, and is given nowhere else
+  -- refusal 10 names the first bound, in working order, that is beyond the limit, and is given nowhere else. When a call is granted, and
+  -- what the other refusals tell, is said in RefusalLaws
   pub stops_at : (s : Shape) (call : Call) (cells draft : List Record) (row : ℕ) (bound : Bound) → (call_answer s call cells draft ≡ refused (past_limit (name call) (target call) row bound)) ↔ StopsAt s call cells draft row bound
-  -- a call is granted exactly where its memory is as it should be, every check passes, and every worked-out cell fits
-  pub granted_where : (s : Shape) (call : Call) (cells draft : List Record) → (call_answer s call cells draft ≡ granted) ↔ ((has_both s cells draft ≡ true) × Passed (checks s call) × AllFit (new_column s call (cells_in s cells)) (worked_rows s call))

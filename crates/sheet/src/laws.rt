@@ -21,8 +21,8 @@ pub fn runs_go_on()
     ensures { Histories }
 {}
 
-// The definitions of the calls come to what they should: a solve works row after row and its column solves its equations, a refusal
-// for a bound beyond the limit names the first one, and a call is granted where all checks pass and nowhere else.
+// The definitions of the calls come to what they should: a solve works row after row, its column solves its equations, and a refusal
+// for a bound beyond the limit names the first one.
 pub fn calls_stand()
     ensures { CallLaws }
 {
