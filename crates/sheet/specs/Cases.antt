@@ -1,18 +1,19 @@
--- Worked cases of whole calls, put before those of layouts and of cells.
-use Rattle.std.specs.Prelude.{ℕ, List, [], ◌∷◌, ℤ, pos, neg_ℤ}
+-- Worked cases of whole calls and of refusals, put before those of layouts and of cells.
+use Rattle.std.specs.Prelude.{ℕ, List, [], ◌∷◌, ℤ, pos, neg_ℤ, Some}
 use Rattle.rounding.specs.declared.fault.Bound.TheVariants.{Upper}
 use Rattle.cells.specs.declared.cell.Record.{Record}
 use Rattle.cells.specs.Cases.{Cases, case}
 use Rattle.layouts.specs.Cases.{cases as cases-of-layouts}
 use Rattle.layouts.specs.declared.side.Side.TheVariants.{Lower as LowerSide, Upper as UpperSide}
 use Rattle.layouts.specs.Stored.{packed, packed_sound}
-use Rattle.sheet.specs.declared.refusal.CallName.TheVariants.{Blend}
-use Rattle.sheet.specs.declared.refusal.Refusal.TheVariants.{DivisorHoldsZero}
+use Rattle.sheet.specs.declared.refusal.CallName.TheVariants.{Sum, Blend, Product, Copy, Permute}
+use Rattle.sheet.specs.declared.refusal.Refusal.TheVariants.{ScaleOutside, ShapeOutside, WrongLength, NoSuchColumn, NoSuchRow, NoCell, LayoutTooLarge, DivisorHoldsZero, NoPermutation}
 use Rattle.sheet.specs.declared.shape.Shape.{Shape}
 use Rattle.sheet.specs.Answers.{calling, call_answer, draft_after}
 use Rattle.sheet.specs.Calls.{Meaning, Call, blend, solve}
 use Rattle.sheet.specs.Checks.{Answer, refused, past_limit}
 use Rattle.sheet.specs.Memory.{blanks}
+use Rattle.sheet.specs.Refusals.{number, call_of, column_of, row_of, bound_of}
 
 abbrev rec : ℤ → ℤ → Record
 rec l u = record { lower = l; upper = u }
@@ -76,5 +77,23 @@ blends rest =
     (case (answered (of_two 1 2) blended (at_limit (rec (pos 0) (pos 1)))) (refused (past_limit Blend 1 0 Upper))
     (case (drafted_by (of_two 1 2) blended (at_limit (rec (pos 0) (pos 1)))) (blanks 2) rest))
 
+-- the number of each refusal, and what one of them names
+abbrev numbers : Cases → Cases
+numbers rest =
+    case (number ScaleOutside) 1
+    (case (number ShapeOutside) 2
+    (case (number (WrongLength Copy 3)) 3
+    (case (number (NoSuchColumn Copy 3)) 4
+    (case (number (NoSuchRow Sum 3 5)) 5
+    (case (number (NoCell 3)) 6
+    (case (number (LayoutTooLarge Product 3)) 7
+    (case (number (DivisorHoldsZero 3 5)) 8
+    (case (number (NoPermutation Permute 3)) 9
+    (case (number (past_limit Blend 3 5 Upper)) 10
+    (case (call_of (past_limit Blend 3 5 Upper)) Blend
+    (case (column_of (past_limit Blend 3 5 Upper)) 3
+    (case (row_of (past_limit Blend 3 5 Upper)) 5
+    (case (bound_of (past_limit Blend 3 5 Upper)) (Some Upper) rest)))))))))))))
+
 abbrev pub cases : Cases
-cases = solves (blends cases-of-layouts)
+cases = numbers (solves (blends cases-of-layouts))
