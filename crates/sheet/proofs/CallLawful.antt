@@ -2,6 +2,7 @@
 use Rattle.layouts.specs.Laws.{Laws}
 use Rattle.sheet.specs.CallLaws.{CallLaws}
 use Rattle.sheet.proofs.FirstPast.{first_past}
+use Rattle.sheet.proofs.FirstZero.{zero_first}
 use Rattle.sheet.proofs.Orders.{rows_before}
 use Rattle.sheet.proofs.Solving.{solution_row, solution_only}
 
@@ -10,5 +11,6 @@ call_laws laws = record {
   rows_before = rows_before laws;
   solution_solves = solution_row laws;
   solution_only = solution_only laws;
+  zero_first = zero_first;
   stops_at = first_past;
 }

@@ -9,6 +9,7 @@ pub mod Containing
 pub mod ExactDrafts
 pub mod Exits
 pub mod FirstPast
+pub mod FirstZero
 pub mod Following
 pub mod Gathering
 pub mod GoingOn

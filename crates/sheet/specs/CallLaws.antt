@@ -1,6 +1,6 @@
 -- What the definitions of the calls come to: the order in which a solve works, the equations that its column solves, and which row a
 -- refusal for a bound beyond the limit names.
-use Rattle.std.specs.Prelude.{◌≡◌, ℕ, ◌<◌, true, false, ◌↔◌, List, [], ◌∷◌, length, get_or}
+use Rattle.std.specs.Prelude.{◌≡◌, ℕ, ◌<◌, true, false, ◌↔◌, List, [], ◌∷◌, length, get_or, Some}
 use Rattle.arithmetic.specs.Values.{Value}
 use Rattle.rounding.specs.declared.fault.Bound.{Bound}
 use Rattle.rounding.specs.declared.fault.Bound.TheVariants.{Lower, Upper}
@@ -8,11 +8,12 @@ use Rattle.cells.specs.declared.cell.Record.{Record}
 use Rattle.layouts.specs.declared.side.Side.{Side}
 use Rattle.layouts.specs.Laws.{SolvedBefore}
 use Rattle.layouts.specs.Matrix.{Matrix}
-use Rattle.layouts.specs.Orders.{row_at}
+use Rattle.layouts.specs.Orders.{row_at, rows_in_order, first_zero}
 use Rattle.layouts.specs.Rows.{solve_cell}
+use Rattle.sheet.specs.declared.refusal.Refusal.TheVariants.{DivisorHoldsZero}
 use Rattle.sheet.specs.declared.shape.Shape.{Shape}
 use Rattle.sheet.specs.Answers.{call_answer}
-use Rattle.sheet.specs.Calls.{Call, name, target}
+use Rattle.sheet.specs.Calls.{Meaning, Call, solve, name, target}
 use Rattle.sheet.specs.Checks.{Check, check, refused, checks, worked_rows, lower_fits, upper_fits, past_limit}
 use Rattle.sheet.specs.Memory.{has_both, cells_in}
 use Rattle.sheet.specs.NewColumns.{solution, new_column}
@@ -55,6 +56,9 @@ pub record CallLaws : Type 0 where
   -- the solution solves its equations, and on the rows of the matrix nothing else does
   pub solution_solves : (side : Side) (m : Matrix) (alpha : Value) (x : ℕ → Value) → Solves side m alpha x (solution side m alpha x)
   pub solution_only : (side : Side) (m : Matrix) (alpha : Value) (x z : ℕ → Value) → Solves side m alpha x z → (i : ℕ) → i < m.rows → z i ≡ solution side m alpha x i
+  -- refusal 8 names the first row, in working order, whose diagonal entry holds 0
+  pub zero_first : (s : Shape) (k : ℕ) (side : Side) (t : Meaning) (alpha : Record) (cells draft : List Record) (row : ℕ) → call_answer s (solve k side t alpha) cells draft ≡ refused (DivisorHoldsZero k row)
+      → first_zero t.matrix (rows_in_order side t.matrix.rows) ≡ Some row
   -- refusal 10 names the first bound, in working order, that is beyond the limit, and is given nowhere else. When a call is granted, and
   -- what the other refusals tell, is said in RefusalLaws
   pub stops_at : (s : Shape) (call : Call) (cells draft : List Record) (row : ℕ) (bound : Bound) → (call_answer s call cells draft ≡ refused (past_limit (name call) (target call) row bound)) ↔ StopsAt s call cells draft row bound
