@@ -15,6 +15,12 @@ typedef struct { i32 lower, upper; } Record;
 // A sum of products; where it is not filled it is empty.
 typedef struct { bool filled; i64 least, greatest; } SumRecord;
 #define LIMIT 131071
+// `restrict` says what Rattle's borrow rules say: what is written overlaps nothing
+#ifdef __cplusplus
+#define ONLY __restrict__
+#else
+#define ONLY restrict
+#endif
 
 // ---- Rattle: a slice is a pointer and a length
 #define RATTLE(answer, name, ...) answer bepyndo_##name(const Record *run, usize run_length, __VA_ARGS__, const Record *xs, usize xs_length, SumRecord *sums, usize sums_length)
@@ -29,12 +35,7 @@ RATTLE(void, symmetric_by_rows, usize n);
 RATTLE(bool, transposed_by_columns, usize n);
 RATTLE(void, transposed_by_rows, usize n);
 
-// ---- plain C. `restrict` says what Rattle's borrow rules say: the sums overlap nothing
-#ifdef __cplusplus
-#define ONLY __restrict__
-#else
-#define ONLY restrict
-#endif
+// ---- plain C
 #define PLAIN(name, ...) void plain_##name(const Record *ONLY run, __VA_ARGS__, const Record *ONLY xs, SumRecord *ONLY sums)
 PLAIN(dense_by_rows, usize n);
 PLAIN(dense_by_columns, usize n);

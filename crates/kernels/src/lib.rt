@@ -1,9 +1,11 @@
-// The sums of products over the storage layouts as functions that C calls: what the benchmark in bench/ times. A slice crosses
-// as a pointer and a length.
+// The sums of products over the storage layouts, and whole calls of a sheet, as functions that C calls: what the benchmark in bench/
+// times. A slice crosses as a pointer and a length.
 #![tactic(auto)]
 
+pub mod answer;
 mod columns;
 mod rows;
 mod square;
 pub mod sum;
 mod telling;
+mod whole;

@@ -1,25 +1,21 @@
-// Runs the kernels of Rattle, of plain C and of Boost in one process on the same data: in turn, round by round, so that a
-// change of the machine's load meets all of them. Prints a line a job: layout, job, median time of a call in ns, ratio to the
-// row loop in C of that layout, and whether the answers agree.
-//   driver N ROUNDS [HALF-BAND]     time, and compare
-//   driver N once JOB [HALF-BAND]   call one job's kernel once, for callgrind
+// The sums of a product by Rattle, plain C and Boost, in one process and on the same data.
+//   sums N ROUNDS [HALF-BAND]       times each kernel, and compares the sums
+//   sums N once JOB [HALF-BAND]     one kernel once, for callgrind
 // EMPTIES=m puts m empty cells into each matrix, and every third time one into x; Boost is then left out.
-#include <algorithm>
-#include <chrono>
-#include <cstdio>
 #include <cstdlib>
 #include <cstring>
-#include <functional>
 #include <random>
-#include <string>
-#include <vector>
 #include "boost.hpp"
+#include "timing.hpp"
 
-struct Job {
-  std::string layout, name;
-  std::function<void()> run;
-  std::function<SumRecord(usize)> answer;
-  std::vector<double> times;
+using Answer = std::function<SumRecord(usize)>;
+struct Jobs {
+  std::vector<Job> timed;
+  std::vector<Answer> answers;
+  void add(const std::string &layout, const std::string &name, std::function<void()> call, Answer answer) {
+    timed.push_back({layout, name, [] {}, [=](int calls) { for (int c = 0; c < calls; c++) call(); }, {}});
+    answers.push_back(answer);
+  }
 };
 
 // The forms in which records and sums cross are assumed on both sides: stop if they are not what is assumed here.
@@ -34,22 +30,15 @@ static void check_forms() {
   memcpy(&least, bytes + 8, 8);
   memcpy(&greatest, bytes + 16, 8);
   if (!answered || bytes[0] != 1 || least != 2 || greatest != 29 || bytes[24] != 0) {
-    fprintf(stderr, "driver: a sum does not cross as assumed (flag at byte 0, least at 8, greatest at 16, 24 bytes in all): "
+    fprintf(stderr, "sums: a sum does not cross as assumed (flag at byte 0, least at 8, greatest at 16, 24 bytes in all): "
                     "flag %d, least %lld, greatest %lld, flag of the empty sum %d\n", bytes[0], (long long)least, (long long)greatest, bytes[24]);
     abort();
   }
 }
 
-static double now() { return std::chrono::duration<double, std::nano>(std::chrono::steady_clock::now().time_since_epoch()).count(); }
-
-static double median(std::vector<double> times) {
-  std::sort(times.begin(), times.end());
-  return times[times.size() / 2];
-}
-
 // Boost's jobs, over intervals that are made once from the same records.
 template <class I>
-static void add_boost(std::vector<Job> &jobs, const std::string &mode, usize n, usize k, const std::vector<Record> &full,
+static void add_boost(Jobs &jobs, const std::string &mode, usize n, usize k, const std::vector<Record> &full,
                       const std::vector<Record> &banded, const std::vector<Record> &half_full, const std::vector<Record> &xs) {
   auto made = [](const std::vector<Record> &run) {
     auto *intervals = new std::vector<I>;
@@ -59,8 +48,8 @@ static void add_boost(std::vector<Job> &jobs, const std::string &mode, usize n, 
   auto *x = made(xs);
   auto add = [&](const char *layout, const std::vector<Record> &records, auto from, auto to, auto place) {
     auto *run = made(records), *sums = new std::vector<I>(n);
-    jobs.push_back({layout, std::string("boost_") + layout + "_" + mode, [=] { by_boost::rows(n, run->data(), x->data(), sums->data(), from, to, place); },
-      [=](usize i) { return SumRecord{true, (i64)(*sums)[i].lower(), (i64)(*sums)[i].upper()}; }, {}});
+    jobs.add(layout, std::string("boost_") + layout + "_" + mode, [=] { by_boost::rows(n, run->data(), x->data(), sums->data(), from, to, place); },
+      [=](usize i) { return SumRecord{true, (i64)(*sums)[i].lower(), (i64)(*sums)[i].upper()}; });
   };
   auto zero = [](usize) -> usize { return 0; };
   add("dense", full, zero, [=](usize) { return n; }, [=](usize i, usize j) { return j * n + i; });
@@ -69,7 +58,7 @@ static void add_boost(std::vector<Job> &jobs, const std::string &mode, usize n, 
 }
 
 int main(int count, char **words) {
-  if (count < 3) { fprintf(stderr, "usage: driver N ROUNDS [HALF-BAND], or driver N once JOB [HALF-BAND]\n"); return 2; }
+  if (count < 3) { fprintf(stderr, "usage: sums N ROUNDS [HALF-BAND], or sums N once JOB [HALF-BAND]\n"); return 2; }
   const usize n = atoi(words[1]);
   const bool once = !strcmp(words[2], "once");
   if (!once) check_forms();
@@ -89,9 +78,9 @@ int main(int count, char **words) {
     if (e % 3 == 2) xs[random() % n] = none[random() % 3];
   }
 
-  std::vector<Job> jobs;
+  Jobs jobs;
   auto sums = [&] { return new std::vector<SumRecord>(n, SumRecord{true, 1, -1}); };
-#define JOB(layout, name, ...) { auto *s = sums(); jobs.push_back({layout, name, [&, s] { __VA_ARGS__; }, [s](usize i) { return (*s)[i]; }, {}}); }
+#define JOB(layout, name, ...) { auto *s = sums(); jobs.add(layout, name, [&, s] { __VA_ARGS__; }, [s](usize i) { return (*s)[i]; }); }
 #define BOTH(layout, run, ...) \
   JOB(#layout, "plain_" #layout "_by_rows", plain_##layout##_by_rows(run.data(), __VA_ARGS__, xs.data(), s->data())) \
   JOB(#layout, "plain_" #layout "_by_columns", plain_##layout##_by_columns(run.data(), __VA_ARGS__, xs.data(), s->data()))
@@ -110,33 +99,22 @@ int main(int count, char **words) {
   }
 
   if (once) {
-    for (auto &job : jobs) if (job.name == only) { job.run(); return 0; }
-    fprintf(stderr, "driver: no job %s\n", only);
+    for (auto &job : jobs.timed) if (job.name == only) { job.run(1); return 0; }
+    fprintf(stderr, "sums: no job %s\n", only);
     return 2;
   }
-  const int rounds = atoi(words[2]);
-  // a round is long enough for the clock: about half a millisecond of calls
-  std::vector<int> calls;
-  for (auto &job : jobs) { job.run(); double t = now(); job.run(); calls.push_back(std::max(1, (int)(5e5 / (now() - t)))); }
-  for (int round = 0; round < rounds; round++)
-    for (usize j = 0; j < jobs.size(); j++) {
-      double t = now();
-      for (int c = 0; c < calls[j]; c++) jobs[j].run();
-      jobs[j].times.push_back((now() - t) / calls[j]);
-    }
-
-  std::stable_sort(jobs.begin(), jobs.end(), [](const Job &a, const Job &b) { return a.layout < b.layout; });
-  const Job *base = nullptr;
+  time_in_turn(jobs.timed, atoi(words[2]));
   int differing = 0;
-  for (auto &job : jobs) {
-    if (!base || base->layout != job.layout) base = &job;
+  for (usize j = 0; j < jobs.timed.size(); j++) {
+    const Job &job = jobs.timed[j];
+    const Answer *base = &jobs.answers[base_of(jobs.timed, job) - jobs.timed.data()];
     bool same = true;
     for (usize i = 0; i < n; i++) {
-      SumRecord a = base->answer(i), b = job.answer(i);
+      SumRecord a = (*base)(i), b = jobs.answers[j](i);
       same &= a.filled == b.filled && (!a.filled || (a.least == b.least && a.greatest == b.greatest));
     }
     differing += !same;
-    printf("%-11s %-34s %12.1f %8.3f %s\n", job.layout.c_str(), job.name.c_str(), median(job.times), median(job.times) / median(base->times), same ? "agrees" : "DIFFERS");
+    print_line(jobs.timed, job, same);
   }
   return differing != 0;
 }

@@ -1,24 +1,7 @@
 // The same sums in plain C, compiled by the clang that compiles Rattle. Each layout has both orders: row by row, which is the
 // loop of the definition, and column by column. Structural zeros are skipped; an empty operand empties the sum, also one that
 // stands under a structural zero, so all of x is tested first.
-#include "records.h"
-
-static inline bool is_filled(Record r) { return r.lower <= r.upper && r.lower >= -LIMIT && r.upper <= LIMIT; }
-static inline i64 min(i64 a, i64 b) { return a < b ? a : b; }
-static inline i64 max(i64 a, i64 b) { return a > b ? a : b; }
-
-typedef struct { i64 least, greatest; } Product;
-
-static inline Product times(Record a, Record b) {
-  i64 p = (i64)a.lower * b.lower, q = (i64)a.lower * b.upper, r = (i64)a.upper * b.lower, s = (i64)a.upper * b.upper;
-  return (Product){min(min(p, q), min(r, s)), max(max(p, q), max(r, s))};
-}
-
-static bool all_filled(const Record *xs, usize n) {
-  for (usize j = 0; j < n; j++)
-    if (!is_filled(xs[j])) return 0;
-  return 1;
-}
+#include "plain.h"
 
 static void set_all(SumRecord *sums, usize n, bool filled) {
   for (usize i = 0; i < n; i++) sums[i] = (SumRecord){filled, 0, 0};
@@ -30,7 +13,7 @@ static void set_all(SumRecord *sums, usize n, bool filled) {
   for (usize j = from; j < to; j++) { \
     Record a = run[PLACE]; \
     if (!is_filled(a)) { filled = 0; break; } \
-    Product p = times(a, xs[j]); \
+    Bounds p = times(bounds(a), bounds(xs[j])); \
     least += p.least; greatest += p.greatest; \
   } \
   sums[i] = (SumRecord){filled, filled ? least : 0, filled ? greatest : 0};
@@ -41,7 +24,7 @@ static void set_all(SumRecord *sums, usize n, bool filled) {
   for (usize i = from; i < to; i++) { \
     Record a = run[PLACE]; \
     if (!is_filled(a)) { sums[i].filled = 0; continue; } \
-    Product p = times(a, x); \
+    Bounds p = times(bounds(a), bounds(x)); \
     sums[i].least += p.least; sums[i].greatest += p.greatest; \
   }
 
