@@ -25,19 +25,19 @@ INLINE void copy(const Record *from, Record *to, usize first, usize end) {
 // ---- matrices, square with n rows. A band has k places below the diagonal and k above, packed is the lower triangle.
 
 typedef enum { DENSE, BAND, PACKED } Storage;
-typedef struct { Storage storage; const Record *run; usize n, k, stride; } Matrix;
+typedef struct { const Record *run; usize n, k, stride; } Matrix;
 
-INLINE bool is_fit(Matrix m, usize length) {
+INLINE bool is_fit(Storage storage, Matrix m, usize length) {
   if (m.n > 1024) return 0;
-  switch (m.storage) {
+  switch (storage) {
     case DENSE: return 1 <= m.n && m.n * m.n <= length;
     case BAND: { usize places; return m.k <= 1023 && 2 * m.k + 1 <= m.stride && !__builtin_mul_overflow(m.stride, m.n, &places) && places <= length; }
     default: return length == m.n * (m.n + 1) / 2;
   }
 }
 
-INLINE usize place(Matrix m, usize i, usize j) {
-  switch (m.storage) {
+INLINE usize place(Storage storage, Matrix m, usize i, usize j) {
+  switch (storage) {
     case DENSE: return j * m.n + i;
     case BAND: return m.k + i - j + j * m.stride;
     default: return i + j * (2 * m.n - j - 1) / 2;
@@ -45,9 +45,9 @@ INLINE usize place(Matrix m, usize i, usize j) {
 }
 
 // the columns of row i outside which it is 0
-INLINE usize first_column(Matrix m, usize i) { return m.storage == BAND && i > m.k ? i - m.k : 0; }
-INLINE usize end_column(Matrix m, usize i) {
-  switch (m.storage) {
+INLINE usize first_column(Storage storage, Matrix m, usize i) { return storage == BAND && i > m.k ? i - m.k : 0; }
+INLINE usize end_column(Storage storage, Matrix m, usize i) {
+  switch (storage) {
     case DENSE: return m.n;
     case BAND: return i + m.k + 1 < m.n ? i + m.k + 1 : m.n;
     default: return i + 1;
@@ -55,10 +55,10 @@ INLINE usize end_column(Matrix m, usize i) {
 }
 
 // Σ m_ij·x_j over some columns, the x_j being filled; false where an entry is empty
-INLINE bool row_sum(Matrix m, usize i, usize from, usize to, const Record *xs, Bounds *sum) {
+INLINE bool row_sum(Storage storage, Matrix m, usize i, usize from, usize to, const Record *xs, Bounds *sum) {
   i64 least = 0, greatest = 0;
   for (usize j = from; j < to; j++) {
-    Record a = m.run[place(m, i, j)];
+    Record a = m.run[place(storage, m, i, j)];
     if (!is_filled(a)) return 0;
     Bounds p = times(bounds(a), bounds(xs[j]));
     least += p.least;
@@ -133,17 +133,17 @@ APART AnswerRecord dot(usize row, usize other, const Asked *asked, SLICE(const R
   return answer.number ? past_limit(answer, draft, rows) : GRANTED;
 }
 
-INLINE AnswerRecord product(Matrix m, usize run_length, const Asked *asked, SLICE(const Record, cells), SLICE(Record, draft)) {
+INLINE AnswerRecord product(Storage storage, Matrix m, usize run_length, const Asked *asked, SLICE(const Record, cells), SLICE(Record, draft)) {
   usize rows = asked->rows;
   if (!have_lengths(asked, cells_length, draft_length)) return refused(3, 0, 0);
   if (asked->target >= asked->columns || asked->operand >= asked->columns) return refused(4, 0, 0);
-  if (!is_fit(m, run_length)) m.n = 0;
+  if (!is_fit(storage, m, run_length)) m.n = 0;
   if (m.n > rows) return refused(7, 0, 0);
   const Record *rs = cells + asked->target * rows, *xs = cells + asked->operand * rows;
   bool filled = factors_filled(asked) && all_filled(xs, m.n);
   for (usize i = 0; i < m.n; i++) {
     Bounds sum;
-    if (!filled || !is_filled(rs[i]) || !row_sum(m, i, first_column(m, i), end_column(m, i), xs, &sum)) {
+    if (!filled || !is_filled(rs[i]) || !row_sum(storage, m, i, first_column(storage, m, i), end_column(storage, m, i), xs, &sum)) {
       draft[i] = EMPTY;
       continue;
     }
@@ -159,7 +159,7 @@ APART AnswerRecord product_dense_by_columns(Matrix m, usize run_length, const As
   usize rows = asked->rows;
   if (!have_lengths(asked, cells_length, draft_length)) return refused(3, 0, 0);
   if (asked->target >= asked->columns || asked->operand >= asked->columns) return refused(4, 0, 0);
-  if (!is_fit(m, run_length)) m.n = 0;
+  if (!is_fit(DENSE, m, run_length)) m.n = 0;
   if (m.n > rows) return refused(7, 0, 0);
   const Record *rs = cells + asked->target * rows, *xs = cells + asked->operand * rows;
   bool filled = factors_filled(asked) && all_filled(xs, m.n);
@@ -186,22 +186,22 @@ APART AnswerRecord product_dense_by_columns(Matrix m, usize run_length, const As
 
 // Of the matrix the lower triangle: the rows solved before stand in the draft. The four quotients are divided once each; of the quotients
 // rounded down the least is the lower bound, of those rounded up the greatest is the upper one.
-INLINE AnswerRecord solve(Matrix m, usize run_length, const Asked *asked, SLICE(const Record, cells), SLICE(Record, draft)) {
+INLINE AnswerRecord solve(Storage storage, Matrix m, usize run_length, const Asked *asked, SLICE(const Record, cells), SLICE(Record, draft)) {
   usize rows = asked->rows;
   if (!have_lengths(asked, cells_length, draft_length)) return refused(3, 0, 0);
   if (asked->target >= asked->columns) return refused(4, 0, 0);
-  if (!is_fit(m, run_length)) m.n = 0;
+  if (!is_fit(storage, m, run_length)) m.n = 0;
   if (m.n > rows) return refused(7, 0, 0);
   const Record *rs = cells + asked->target * rows;
   for (usize i = 0; i < m.n; i++) {
-    Record d = m.run[place(m, i, i)];
+    Record d = m.run[place(storage, m, i, i)];
     if (is_filled(d) && d.lower <= 0 && 0 <= d.upper) return refused(8, i, 0);
   }
   bool filled = is_filled(asked->alpha); // and every row solved before
   for (usize i = 0; i < m.n; i++) {
-    Record d = m.run[place(m, i, i)];
+    Record d = m.run[place(storage, m, i, i)];
     Bounds sum;
-    filled = filled && is_filled(rs[i]) && is_filled(d) && row_sum(m, i, first_column(m, i), i, draft, &sum);
+    filled = filled && is_filled(rs[i]) && is_filled(d) && row_sum(storage, m, i, first_column(storage, m, i), i, draft, &sum);
     if (!filled) {
       draft[i] = EMPTY;
       continue;
@@ -258,21 +258,18 @@ AnswerRecord plain_##name(parameters, const Asked *asked, MEMORY) { \
 #define RUN SLICE(const Record, run)
 
 #define OVER(call, layout) APART AnswerRecord call##_##layout(Matrix m, usize run_length, const Asked *asked, SLICE(const Record, cells), SLICE(Record, draft))
-OVER(product, dense) { m.storage = DENSE; return product(m, run_length, LENT); }
-OVER(product, band) { m.storage = BAND; return product(m, run_length, LENT); }
-OVER(product, packed) { m.storage = PACKED; return product(m, run_length, LENT); }
-OVER(solve, dense) { m.storage = DENSE; return solve(m, run_length, LENT); }
-OVER(solve, band) { m.storage = BAND; return solve(m, run_length, LENT); }
-OVER(solve, packed) { m.storage = PACKED; return solve(m, run_length, LENT); }
+OVER(product, dense) { return product(DENSE, m, run_length, LENT); }
+OVER(product, band) { return product(BAND, m, run_length, LENT); }
+OVER(product, packed) { return product(PACKED, m, run_length, LENT); }
+OVER(solve, dense) { return solve(DENSE, m, run_length, LENT); }
+OVER(solve, band) { return solve(BAND, m, run_length, LENT); }
+OVER(solve, packed) { return solve(PACKED, m, run_length, LENT); }
 
-#define DENSE_OVER(run) (Matrix){DENSE, run, n, 0, n}
-#define BAND_OVER(run) (Matrix){BAND, run, n, k, stride}
-#define PACKED_OVER(run) (Matrix){PACKED, run, n, 0, n}
 WORK(dot, usize row COMMA usize other, dot(row, other, LENT))
-WORK(product_dense, RUN COMMA usize n, product_dense(DENSE_OVER(run), run_length, LENT))
-WORK(product_dense_by_columns, RUN COMMA usize n, product_dense_by_columns(DENSE_OVER(run), run_length, LENT))
-WORK(product_band, RUN COMMA usize n COMMA usize k COMMA usize stride, product_band(BAND_OVER(run), run_length, LENT))
-WORK(product_packed, RUN COMMA usize n, product_packed(PACKED_OVER(run), run_length, LENT))
-WORK(solve_dense, RUN COMMA usize n, solve_dense(DENSE_OVER(run), run_length, LENT))
-WORK(solve_band, RUN COMMA usize n COMMA usize k COMMA usize stride, solve_band(BAND_OVER(run), run_length, LENT))
-WORK(solve_packed, RUN COMMA usize n, solve_packed(PACKED_OVER(run), run_length, LENT))
+WORK(product_dense, RUN COMMA usize n, product_dense((Matrix){run, n, 0, n}, run_length, LENT))
+WORK(product_dense_by_columns, RUN COMMA usize n, product_dense_by_columns((Matrix){run, n, 0, n}, run_length, LENT))
+WORK(product_band, RUN COMMA usize n COMMA usize k COMMA usize stride, product_band((Matrix){run, n, k, stride}, run_length, LENT))
+WORK(product_packed, RUN COMMA usize n, product_packed((Matrix){run, n, 0, n}, run_length, LENT))
+WORK(solve_dense, RUN COMMA usize n, solve_dense((Matrix){run, n, 0, n}, run_length, LENT))
+WORK(solve_band, RUN COMMA usize n COMMA usize k COMMA usize stride, solve_band((Matrix){run, n, k, stride}, run_length, LENT))
+WORK(solve_packed, RUN COMMA usize n, solve_packed((Matrix){run, n, 0, n}, run_length, LENT))
