@@ -23,6 +23,7 @@ pub mod Orders
 pub mod Owed
 pub mod Owes
 pub mod RefusalLawful
+pub mod RowByRow
 pub mod Sized
 pub mod Solving
 pub mod Standing
