@@ -1,6 +1,6 @@
 -- What a call answers, opened: for the code, whose exits are its checks one by one.
 use Rattle.std.specs.Prelude.{◌≡◌, ◌≢◌, ℕ, ◌<◌, Bool, true, false, cond, List, [], ◌∷◌, ℤ, Ok, Err, Result, length, get_or, slice_set, ◌==◌, refl}
-use Rattle.std.proofs.Common.{ap, subst, ◌∙◌, ⊎_elim, arith}
+use Rattle.std.proofs.Common.{subst, ◌∙◌, ⊎_elim, arith}
 use Rattle.std.proofs.lemmas.Bool.{cases_eq, eq-eqb, ne_eqb}
 use Rattle.std.proofs.lemmas.List.{length-set, get_or-set_same, get_or-set_other}
 use Rattle.std.proofs.lemmas.List.FromFn.{fill_by_all, length-map-range_with_len, get_or-map-range_with_len}
@@ -11,19 +11,14 @@ use Rattle.cells.specs.declared.cell.Record.{Record}
 use Rattle.cells.specs.declared.fault.CellFault.{CellFault}
 use Rattle.cells.specs.Cells.{blank, written}
 use Rattle.cells.specs.Faults.{kept}
-use Rattle.cells.specs.Formulas.{sum_cell}
-use Rattle.cells.specs.Worked.{sum_at}
 use Rattle.sheet.specs.declared.refusal.Refusal.{Refusal}
 use Rattle.sheet.specs.declared.refusal.Refusal.TheVariants.{WrongLength, BeyondLimit}
 use Rattle.sheet.specs.declared.refusal.CallName.{CallName}
-use Rattle.sheet.specs.declared.refusal.CallName.TheVariants.{Sum}
-use Rattle.sheet.specs.declared.refusal.SheetFault.{SheetFault}
-use Rattle.sheet.specs.Faults.{in_call}
 use Rattle.sheet.specs.declared.shape.Shape.{Shape}
 use Rattle.sheet.specs.Answers.{check_answer, call_answer}
-use Rattle.sheet.specs.Calls.{Call, sum, name, target}
+use Rattle.sheet.specs.Calls.{Call, name, target}
 use Rattle.sheet.specs.Checks.{Answer, Check, check, granted, refused, first_refusal, checks, worked_rows, limits}
-use Rattle.sheet.specs.Memory.{has_both, column, cells_in, written_rows}
+use Rattle.sheet.specs.Memory.{has_both, cells_in, written_rows}
 use Rattle.sheet.specs.NewColumns.{new_column}
 use Rattle.sheet.specs.WorkingRows.{first_fault}
 

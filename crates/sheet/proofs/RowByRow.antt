@@ -1,6 +1,6 @@
 -- The rows of a column worked one after the other: what the draft holds at a step, and what is left to be worked.
-use Rattle.std.proofs.Common.{◌≡◌, ◌≢◌, ℕ, zero, suc, ◌+◌, ◌-◌, ◌<◌, ◌≤◌, Bool, true, false, cond, ltb, eqb, List, [], ◌∷◌, drop, length, slice_index_or, slice_set, Ok, Err, Result, sym, refl, ap, ◌∙◌, subst, ⊎_elim, arith}
-use Rattle.std.proofs.lemmas.Bool.{cases_lt, cases_eq, lt-ltb, le-ltb, eq-eqb, ne_eqb, ltb-true}
+use Rattle.std.proofs.Common.{◌≡◌, ◌≢◌, ℕ, zero, suc, ◌+◌, ◌-◌, ◌<◌, ◌≤◌, Bool, cond, ltb, eqb, List, [], ◌∷◌, drop, slice_index_or, slice_set, Ok, Err, Result, sym, refl, ap, ◌∙◌, subst, ⊎_elim, arith}
+use Rattle.std.proofs.lemmas.Bool.{cases_lt, cases_eq, lt-ltb, le-ltb, eq-eqb, ne_eqb}
 use Rattle.std.proofs.Math.Seq.{drop-nil}
 use Rattle.std.proofs.lemmas.List.FromFn.{fill_by_all, length-map-range_with_len, get_or-map-range_with_len}
 use Rattle.arithmetic.specs.Values.{Value}
@@ -89,7 +89,7 @@ standing order old new n draft step h w inside = record {
   worked = rw is h;
   here = at (row_of order step) (inside step h) ∙ ap written (old_yet (row_of order step) (omega (arith, is)));
   before = λ j b. let e : step_of order j < step = omega (arith, is, b) in
-  (at j (subst (λ j. j < n) (row_of_step order j (omega (arith, e, h))) (inside (step_of order j) (omega (arith, e, h)))) ∙ ap written (new_now j e), w.fit j e);
+      (at j (subst (λ j. j < n) (row_of_step order j (omega (arith, e, h))) (inside (step_of order j) (omega (arith, e, h)))) ∙ ap written (new_now j e), w.fit j e);
 }
   where
     is : step_of order (row_of order step) ≡ step
@@ -116,9 +116,9 @@ pub row_worked : (laws : Laws) (order : WorkingOrder) (old new : ℕ → Value) 
     → Ok r ≡ in_row (row_of order step) (kept (new (row_of order step))) → Worked order old new n (slice_set draft (row_of order step) r) (step + 1)
 row_worked laws order old new n draft step r h w e = record {
   reads = ap (λ (d : List Record). slice_set d row r) w.reads ∙ ap (slice_set (written_rows n (half order old new step)) row) is
-  ∙ one_written n row (half order old new step) (new row) ∙ same_rows n _ (half order old new (step + 1)) (λ j b. half_next order old new step j h);
+      ∙ one_written n row (half order old new step) (new row) ∙ same_rows n _ (half order old new (step + 1)) (λ j b. half_next order old new step j h);
   fit = λ j b. ⊎_elim (λ (q : step_of order j < step). w.fit j q) (λ q. let s : step_of order j ≡ step = omega arith in
-  subst (λ i. kept (new i) ≡ Ok (written (new i))) (sym (ap (row_of order) s) ∙ row_of_step order j (omega (arith, s, h))) (keeps ∙ ap (λ (r : Record). Ok r) is)) (cases_lt (step_of order j) step);
+      subst (λ i. kept (new i) ≡ Ok (written (new i))) (sym (ap (row_of order) s) ∙ row_of_step order j (omega (arith, s, h))) (keeps ∙ ap (λ (r : Record). Ok r) is)) (cases_lt (step_of order j) step);
   rest = sym (ap (first_fault new) (rows_left laws order step h) ∙ ap (λ (q : Result Record CellFault). before_rest q (first_fault new (drop (step + 1) (rows_of order)))) (sym e)) ∙ w.rest;
 }
   where

@@ -1,6 +1,5 @@
 -- The order in which a call works its rows: which row is worked at a step, and at which step a row is.
 use Rattle.std.specs.Prelude.{ℕ, ◌-◌, cond, List, [], ◌∷◌, nat_lt, ◌==◌}
-use Rattle.layouts.specs.declared.side.Side.{Side}
 use Rattle.layouts.specs.declared.side.Side.TheVariants.{Lower, Upper}
 use Rattle.layouts.specs.Orders.{row_at, rows_in_order}
 use Rattle.sheet.specs.declared.order.WorkingOrder.{WorkingOrder}

@@ -47,11 +47,10 @@ impl RowFormula for Summed<'_, '_> {
 
     fn record(
         &self,
-        rounding: &mut Rounding,
-        draft: &[Record],
+        _rounding: &mut Rounding,
+        _draft: &[Record],
         row: usize,
     ) -> Result<Record, CellFault> {
-        let _ = (rounding, draft);
         sum(self.xs, self.terms, row)
     }
 
@@ -90,10 +89,9 @@ impl RowFormula for Dotted<'_, '_, '_> {
     fn record(
         &self,
         rounding: &mut Rounding,
-        draft: &[Record],
+        _draft: &[Record],
         row: usize,
     ) -> Result<Record, CellFault> {
-        let _ = draft;
         let target = Target {
             column: self.column,
             row,
@@ -135,10 +133,9 @@ impl RowFormula for Blended<'_, '_> {
     fn record(
         &self,
         rounding: &mut Rounding,
-        draft: &[Record],
+        _draft: &[Record],
         row: usize,
     ) -> Result<Record, CellFault> {
-        let _ = draft;
         let target = Target {
             column: self.column,
             row,
@@ -182,10 +179,9 @@ impl<L: Layout> RowFormula for Multiplied<'_, '_, '_, L> {
     fn record(
         &self,
         rounding: &mut Rounding,
-        draft: &[Record],
+        _draft: &[Record],
         row: usize,
     ) -> Result<Record, CellFault> {
-        let _ = draft;
         let target = Target {
             column: self.column,
             row,

@@ -2,8 +2,8 @@
 #![tactic(auto)]
 
 mod column;
-pub mod laws;
 mod formulas;
+pub mod laws;
 mod memory;
 mod new_columns;
 mod order;

@@ -6,7 +6,7 @@ use Rattle.cells.specs.Faults.{kept, in_row}
 use Rattle.sheet.specs.declared.order.WorkingOrder.{WorkingOrder}
 use Rattle.sheet.specs.Memory.{written_rows}
 use Rattle.sheet.specs.WorkingOrders.{steps, row_of}
-use Rattle.sheet.proofs.RowByRow.{Worked, nothing_worked, standing, row_worked, row_past, rows_worked, same_rows, half_all, half}
+use Rattle.sheet.proofs.RowByRow.{nothing_worked, standing, row_worked, row_past, rows_worked, same_rows, half_all, half}
 use Rattle.sheet.proofs.working_out.work_rows.Goals as goal
 
 pub loop-step-init : goal.loop-step-init

@@ -1,4 +1,4 @@
-use Rattle.std.proofs.Common.{ℕ, ◌≡◌, length}
+use Rattle.std.proofs.Common.{length}
 use Rattle.cells.specs.Cells.{cell_at}
 use Rattle.sheet.proofs.RowByRow.{Worked}
 use Rattle.sheet.proofs.working_out.work_rows.Given as goal
