@@ -1,21 +1,24 @@
 -- The laws of the row formulas, from those of cells, which are assumed here and which `cells::laws::laws_stand` promises.
-use Rattle.std.proofs.Common.{◌≡◌, ℕ, ◌<◌, false, ℤ, pos, ◌*ℤ◌, ◌<ℤ◌, sym, refl, subst, inl, inr, arith}
+use Rattle.std.proofs.Common.{◌≡◌, ℕ, ◌<◌, true, false, ℤ, pos, ◌*ℤ◌, ◌<ℤ◌, sym, refl, subst, ap, ◌∙◌, inl, inr, arith}
 use lib.Signed.{le_z}
 use borrow.Author.Differences.{ints}
-use Rattle.std.proofs.lemmas.Bool.{and_left, and_right}
+use Rattle.std.proofs.lemmas.Bool.{and_left, and_right, false≢true, true_from_ne_false}
 use Rattle.arithmetic.specs.Sets.{Included, ProductSet}
 use Rattle.arithmetic.specs.Values.{Value, empty, bounds, Ordered, Inside, Within, Apart, Tightly, times}
 use Rattle.arithmetic.proofs.Sets.{products_grow, sums_grow, negatives_grow, quotients_grow, totals_grow}
+use Rattle.arithmetic.proofs.Totals.{times_empty, plus_empty, total_empty}
 use Rattle.arithmetic.proofs.Values.{exactly_inside, exactly_times, exactly_plus, exactly_opposite, exactly_total, quotients_tightly, within_nested, nested_apart}
 use Rattle.cells.specs.Cells.{IsCell}
 use Rattle.cells.specs.Formulas.{remainder_sum}
 use Rattle.cells.specs.Laws.{Laws as CellLaws}
-use Rattle.cells.specs.Quotients.{zero_in}
+use Rattle.cells.specs.Quotients.{zero_in, divided}
 use Rattle.layouts.specs.declared.side.Side.{Side}
+use Rattle.layouts.specs.Filled.{is_filled}
 use Rattle.layouts.specs.Laws.{Laws, SolvedBefore}
 use Rattle.layouts.specs.Matrix.{Matrix, Sound}
 use Rattle.layouts.specs.Rows.{product_cell, ProductValues, solved_from, solved_count, solved_sum, solve_cell, SolveValues}
 use Rattle.layouts.proofs.Orders.{rows_more, rows_done, row_below, solved_earlier, earlier_solved}
+use Rattle.layouts.proofs.Skips.{unfilled}
 
 ordered : (c : Value) → IsCell c → Ordered c
 ordered empty g = tt
@@ -59,6 +62,19 @@ solve_grows u side m m' alpha x alpha' x' z z' i n ia ix im iz id =
     (negatives_grow (totals_grow (λ j. ProductSet (Inside u (m.entry i j)) (Inside u (z j))) (λ j. ProductSet (Inside u (m'.entry i j)) (Inside u (z' j))) (solved_from side i) (solved_count side n i)
     (λ j b c. products_grow (im j (record { least = b; most = c })) (iz j (record { least = b; most = c })))))) id
 
+-- an empty operand empties the sum, what is left of alpha·x, and so the quotient
+solve_emptied : (side : Side) (m : Matrix) (alpha x : Value) (z : ℕ → Value) (i j : ℕ) → SolvedBefore side m.rows i j → z j ≡ empty → solve_cell side m alpha x z i ≡ empty
+solve_emptied side m alpha x z i j b e =
+    let d = m.entry i i in
+    let sum : solved_sum side m z i ≡ empty =
+    total_empty (λ j. times (m.entry i j) (z j)) (solved_from side i) (solved_count side m.rows i) j b.least b.most (ap (times (m.entry i j)) e ∙ times_empty (m.entry i j)) in
+    ap (λ (t : Value). divided (remainder_sum alpha x t) d) sum ∙ ap (λ (v : Value). divided v d) (plus_empty (times alpha x))
+
+solve_filled : (side : Side) (m : Matrix) (alpha x : Value) (z : ℕ → Value) (i : ℕ) → is_filled (solve_cell side m alpha x z i) ≡ true
+    → (j : ℕ) → SolvedBefore side m.rows i j → is_filled (z j) ≡ true
+solve_filled side m alpha x z i t j b =
+    true_from_ne_false (is_filled (z j)) (λ f. false≢true (sym (ap is_filled (solve_emptied side m alpha x z i j b (unfilled (z j) f))) ∙ t))
+
 -- ---- the test of the diagonal
 apart_told : (c : Value) → Apart c → zero_in c ≡ false
 apart_told empty h = refl
@@ -74,6 +90,7 @@ laws cell = record {
   product_grows = product_grows cell;
   solve_tight = solve_tight cell;
   solve_grows = solve_grows;
+  solve_filled = solve_filled;
   zero_outside = zero_outside cell;
   rows_more = rows_more;
   rows_done = rows_done;

@@ -1,10 +1,11 @@
 -- What the parts above may rely on: for each row formula that its cell is tight for the values that its operands reach, and
 -- that these values grow with the operands; and what the order of working is.
-use Rattle.std.specs.Prelude.{◌≡◌, ℕ, ◌+◌, ◌<◌, ◌≤◌, false, [], ◌∷◌, drop, ℤ, pos, ◌<ℤ◌}
+use Rattle.std.specs.Prelude.{◌≡◌, ℕ, ◌+◌, ◌<◌, ◌≤◌, true, false, [], ◌∷◌, drop, ℤ, pos, ◌<ℤ◌}
 use Rattle.arithmetic.specs.Sets.{Included}
 use Rattle.arithmetic.specs.Values.{Value, Ordered, Inside, Within, Tightly}
 use Rattle.cells.specs.Quotients.{zero_in}
 use Rattle.layouts.specs.declared.side.Side.{Side}
+use Rattle.layouts.specs.Filled.{is_filled}
 use Rattle.layouts.specs.Matrix.{Matrix, Sound}
 use Rattle.layouts.specs.Orders.{row_at, rows_in_order}
 use Rattle.layouts.specs.Rows.{product_cell, ProductValues, solved_from, solved_count, solve_cell, SolveValues}
@@ -31,6 +32,9 @@ pub record Laws : Type 0 where
       → ((j : ℕ) → SolvedBefore side n i j → Within u (m.entry i j) (m'.entry i j)) → ((j : ℕ) → SolvedBefore side n i j → Within u (z j) (z' j)) → Within u (m.entry i i) (m'.entry i i)
       → Included (SolveValues side (Inside u alpha) (Inside u x) (λ i j. Inside u (m.entry i j)) (λ j. Inside u (z j)) i n)
       (SolveValues side (Inside u alpha') (Inside u x') (λ i j. Inside u (m'.entry i j)) (λ j. Inside u (z' j)) i n)
+  -- a row that comes out filled has filled operands
+  pub solve_filled : (side : Side) (m : Matrix) (alpha x : Value) (z : ℕ → Value) (i : ℕ) → is_filled (solve_cell side m alpha x z i) ≡ true
+      → (j : ℕ) → SolvedBefore side m.rows i j → is_filled (z j) ≡ true
   -- a cell inside one that does not hold 0 does not hold it either
   pub zero_outside : (u : ℤ) (c d : Value) → pos 0 <ℤ u → Ordered c → Ordered d → Within u c d → zero_in d ≡ false → zero_in c ≡ false
   -- the rows in working order, step by step; each of the n rows is below n

@@ -1,6 +1,6 @@
 -- The row formulas of a product and of a solve over a matrix: the cell that each works out, rounded out once, and the set of
 -- fractions that its operands reach.
-use Rattle.std.specs.Prelude.{ℕ, ◌+◌, ◌-◌, List, map, ℤ, Result}
+use Rattle.std.specs.Prelude.{◌≡◌, ℕ, ◌+◌, ◌-◌, ◌<◌, true, List, map, ℤ, Result}
 use Rattle.std.specs.List.{range_with_len}
 use Rattle.arithmetic.specs.Sets.{Set, ProductSet, SumSet, NegativeSet, QuotientSet, TotalSet}
 use Rattle.arithmetic.specs.Values.{Value}
@@ -12,6 +12,7 @@ use Rattle.cells.specs.Formulas.{sum_of_products, remainder_sum, dot_cell, DotVa
 use Rattle.cells.specs.Quotients.{divided}
 use Rattle.layouts.specs.declared.side.Side.{Side}
 use Rattle.layouts.specs.declared.side.Side.TheVariants.{Lower, Upper}
+use Rattle.layouts.specs.Filled.{is_filled, Filled}
 use Rattle.layouts.specs.Matrix.{Matrix}
 
 -- ---- product: beta·r + alpha·Σ m_ij·x_j over all columns of m
@@ -46,6 +47,11 @@ abbrev pub solved_count : Side → (n i : ℕ) → ℕ
 solved_count Lower n i = i
 solved_count Upper n i = n - (i + 1)
 
+-- the last of them to be solved; none of them for the first row in working order
+abbrev pub solved_last : Side → (i : ℕ) → ℕ
+solved_last Lower i = i - 1
+solved_last Upper i = i + 1
+
 abbrev pub solved_sum : Side → Matrix → (z : ℕ → Value) (i : ℕ) → Value
 solved_sum side m z i = sum_of_products (m.entry i) z (solved_from side i) (solved_count side m.rows i)
 
@@ -58,3 +64,7 @@ SolveValues side A X T Z i rows = QuotientSet (SumSet (ProductSet A X) (Negative
 -- what it leaves at a row of a column that holds z_j at the rows solved before, and x elsewhere
 abbrev pub solve_at : Side → Matrix → (alpha : Value) (column : List Record) (row : ℕ) → Result Record CellFault
 solve_at side m alpha column row = in_row row (kept (solve_cell side m alpha (cell_at column row) (cell_at column) row))
+
+-- an empty z_j empties every later row: if the one solved last before row i of n is filled, all that are solved before it are
+abbrev pub EmptyCarriesOn : Side → (n : ℕ) → (column : List Record) → (i : ℕ) → Type 0
+EmptyCarriesOn side n column i = i < n → is_filled (cell_at column (solved_last side i)) ≡ true → Filled column (solved_from side i) (solved_from side i + solved_count side n i)

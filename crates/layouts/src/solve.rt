@@ -2,7 +2,7 @@
 ghost use Rattle.std.specs.Prelude.{◌≡◌, ◌+◌, ◌<◌, ◌≤◌};
 ghost use Rattle.cells.specs.Cells.{cell_value, total_value, cell_at};
 ghost use Rattle.layouts.specs.Orders.{row_at, rows_in_order, first_zero};
-ghost use Rattle.layouts.specs.Rows.{solved_from, solved_count, solved_sum, solve_at};
+ghost use Rattle.layouts.specs.Rows.{solved_from, solved_count, solved_last, solved_sum, EmptyCarriesOn, solve_at};
 
 use crate::filled_part::FilledPart;
 use crate::layout::{Layout, Triangular};
@@ -51,23 +51,39 @@ fn solved_before<T: Triangular>(layout: &T, row: usize) -> Places
     }
 }
 
-// Σ T_ij·z_j over the rows that are solved before the row, unrounded.
+// The one of them that is solved last, if there is one.
+fn solved_last(side: Side, row: usize) -> usize
+    requires { row < 1024 }
+    ensures { result ≡ solved_last side row }
+{
+    match side {
+        Side::Lower => row.saturating_sub(1),
+        Side::Upper => row + 1,
+    }
+}
+
+// Σ T_ij·z_j over the rows that are solved before the row, unrounded. Whether one of them is empty is told by the one solved last: an
+// empty z_j empties every later row.
 fn solved_sum<T: Triangular>(layout: &T, row: usize, column: &[Record]) -> Total
-    requires { row < (T.Layout.meaning layout.now).rows }
+    requires here { row < (T.Layout.meaning layout.now).rows }
+    requires empties { EmptyCarriesOn (T.Triangular.half layout.now) (T.Layout.meaning layout.now).rows column.now row }
     ensures { total_value result ≡ solved_sum (T.Triangular.half layout.now) (T.Layout.meaning layout.now) (cell_at column.now) row }
 {
-    let xs = FilledPart::of(column, solved_before(layout, row))?;
+    let last = solved_last(layout.side(), row);
+    let xs = FilledPart::told_by(column, solved_before(layout, row), last)?;
     RowTimes { layout, row, xs }.sum()
 }
 
 // (alpha·x_i − Σ T_ij·z_j)/T_ii at a row of a column that holds z_j at the rows solved before, and x elsewhere. The cell is
 // empty where T_ii is, outside the shape too, and where T_ii holds 0, which `first_zero` tells beforehand.
+// A column whose rows were worked in order meets the `requires`: a row that comes out filled has filled operands.
 pub fn solve_cell<T: Triangular>(
     rounding: &mut Rounding,
     layout: &T,
     alpha: Cell,
     target: Target<'_>,
 ) -> Result<Record, CellFault>
+    requires { EmptyCarriesOn (T.Triangular.half layout.now) (T.Layout.meaning layout.now).rows target.column.now target.row }
     ensures { result ≡ solve_at (T.Triangular.half layout.now) (T.Layout.meaning layout.now) (cell_value alpha) target.entry.column.now target.entry.row }
 {
     let Target { column, row } = target;

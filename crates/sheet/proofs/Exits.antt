@@ -1,6 +1,6 @@
 -- What a call answers, opened: for the code, whose exits are its checks one by one.
 use Rattle.std.specs.Prelude.{◌≡◌, ◌≢◌, ℕ, ◌<◌, Bool, true, false, cond, List, [], ◌∷◌, ℤ, Ok, Err, Result, length, get_or, slice_set, ◌==◌, refl}
-use Rattle.std.proofs.Common.{ap, subst, ◌∙◌, ⊎_elim, arith}
+use Rattle.std.proofs.Common.{subst, ◌∙◌, ⊎_elim, arith}
 use Rattle.std.proofs.lemmas.Bool.{cases_eq, eq-eqb, ne_eqb}
 use Rattle.std.proofs.lemmas.List.{length-set, get_or-set_same, get_or-set_other}
 use Rattle.std.proofs.lemmas.List.FromFn.{fill_by_all, length-map-range_with_len, get_or-map-range_with_len}
@@ -8,22 +8,19 @@ use Rattle.arithmetic.specs.Values.{Value, empty, bounds}
 use Rattle.rounding.specs.declared.fault.RoundingFault.{RoundingFault}
 use Rattle.rounding.specs.Outward.{beyond}
 use Rattle.cells.specs.declared.cell.Record.{Record}
+use Rattle.cells.specs.declared.fault.CellFault.{CellFault}
 use Rattle.cells.specs.Cells.{blank, written}
-use Rattle.cells.specs.Faults.{kept, in_row}
-use Rattle.cells.specs.Formulas.{sum_cell}
-use Rattle.cells.specs.Worked.{sum_at}
+use Rattle.cells.specs.Faults.{kept}
 use Rattle.sheet.specs.declared.refusal.Refusal.{Refusal}
 use Rattle.sheet.specs.declared.refusal.Refusal.TheVariants.{WrongLength, BeyondLimit}
 use Rattle.sheet.specs.declared.refusal.CallName.{CallName}
-use Rattle.sheet.specs.declared.refusal.CallName.TheVariants.{Sum}
-use Rattle.sheet.specs.declared.refusal.SheetFault.{SheetFault}
-use Rattle.sheet.specs.Faults.{in_call}
 use Rattle.sheet.specs.declared.shape.Shape.{Shape}
 use Rattle.sheet.specs.Answers.{check_answer, call_answer}
-use Rattle.sheet.specs.Calls.{Call, sum, name, target}
+use Rattle.sheet.specs.Calls.{Call, name, target}
 use Rattle.sheet.specs.Checks.{Answer, Check, check, granted, refused, first_refusal, checks, worked_rows, limits}
-use Rattle.sheet.specs.Memory.{has_both, column, cells_in, written_rows}
+use Rattle.sheet.specs.Memory.{has_both, cells_in, written_rows}
 use Rattle.sheet.specs.NewColumns.{new_column}
+use Rattle.sheet.specs.WorkingRows.{first_fault}
 
 pub answer_opened : (s : Shape) (call : Call) (cells draft : List Record) → call_answer s call cells draft
     ≡ first_refusal (check (has_both s cells draft) (WrongLength (name call) (target call)) ∷ checks s call)
@@ -56,22 +53,27 @@ module _ (s : Shape) (call : Call) (cells draft : List Record) where
   unfolding call_answer
   answer_passed e = subst (Decides all) e (decides all) last
 
--- a row is refused exactly if its cell is not kept, and then with the fault of that
-abbrev pub kept_answer : CallName → (k row : ℕ) → Result Record RoundingFault → Answer
-kept_answer call k row (Ok r) = granted
-kept_answer call k row (Err f) = refused (BeyondLimit (record { call = call; column = k; cell = record { row = row; rounding = f } }))
+-- the answer to a fault of a call on column k
+abbrev pub fault_answer : CallName → (k : ℕ) → Result (Unit {0}) CellFault → Answer
+fault_answer call k (Ok u) = granted
+fault_answer call k (Err f) = refused (BeyondLimit (record { call = call; column = k; cell = f }))
 
-pub one_row : (call : CallName) (k row : ℕ) (new : ℕ → Value) → first_refusal (limits call k new (row ∷ [])) granted ≡ kept_answer call k row (kept (new row))
-one_row call k row new = go (new row) (new row) refl
+-- rows are refused exactly if one of their cells is not kept, and then with the fault of the first
+pub limits_fault : (call : CallName) (k : ℕ) (new : ℕ → Value) (rows : List ℕ) → first_refusal (limits call k new rows) granted ≡ fault_answer call k (first_fault new rows)
+limits_fault call k new [] = refl
+limits_fault call k new (row ∷ rows) = go (new row) refl (limits_fault call k new rows)
   where
-    by : (a b : ℤ) (p q : Bool) → beyond a ≡ p → beyond b ≡ q → first_refusal (limits call k (λ _. bounds a b) (row ∷ [])) granted ≡ kept_answer call k row (kept (bounds a b))
-    by a b true q e f = rw e refl
-    by a b false true e f = rw (e, f) refl
-    by a b false false e f = rw (e, f) refl
+    Same : List ℕ → Type 0
+    Same is = first_refusal (limits call k new is) granted ≡ fault_answer call k (first_fault new is)
 
-    go : (v w : Value) → w ≡ v → first_refusal (limits call k (λ _. v) (row ∷ [])) granted ≡ kept_answer call k row (kept v)
-    go empty w e = refl
-    go (bounds a b) w e = by a b (beyond a) (beyond b) refl refl
+    by : (a b : ℤ) (p q : Bool) → beyond a ≡ p → beyond b ≡ q → new row ≡ bounds a b → Same rows → Same (row ∷ rows)
+    by a b true q e f w rest = rw (w, e) refl
+    by a b false true e f w rest = rw (w, e, f) refl
+    by a b false false e f w rest = rw (w, e, f) rest
+
+    go : (v : Value) → new row ≡ v → Same rows → Same (row ∷ rows)
+    go empty w rest = rw w rest
+    go (bounds a b) w rest = by a b (beyond a) (beyond b) refl refl w rest
 
 -- what is kept is the record that is written for the value
 abbrev IsWritten : Value → Result Record RoundingFault → Type 0
@@ -104,44 +106,3 @@ one_written n i old v =
 
     there : (k : ℕ) → k < n → k ≢ i → get_or (slice_set (written_rows n old) i (written v)) k blank ≡ written (cond (k == i) v (old k))
     there k h e = rw (ne_eqb k i e) (get_or-set_other (written_rows n old) i k (written v) blank e ∙ get_or-map-range_with_len (λ row. written (old row)) 0 n k k blank h (omega arith))
-
--- ---- a sum, once its checks have passed
-
-abbrev fault_answer : Result Record SheetFault → Answer
-fault_answer (Ok r) = granted
-fault_answer (Err f) = refused (BeyondLimit f)
-
-abbrev lowered : Result Record SheetFault → Result Record RoundingFault
-lowered (Ok r) = Ok r
-lowered (Err f) = Err f.cell.rounding
-
-lifted_answer : (call : CallName) (k i : ℕ) (q : Result Record RoundingFault) → kept_answer call k i q ≡ fault_answer (in_call call k (in_row i q))
-lifted_answer call k i (Ok r) = refl
-lifted_answer call k i (Err f) = refl
-
-lifted_lowered : (call : CallName) (k i : ℕ) (q : Result Record RoundingFault) → q ≡ lowered (in_call call k (in_row i q))
-lifted_lowered call k i (Ok r) = refl
-lifted_lowered call k i (Err f) = refl
-
-module _ (s : Shape) (k i x : ℕ) (cells draft : List Record) where
-  abbrev of_column : Result Record RoundingFault
-  of_column = kept (sum_cell (cells_in s cells x) s.rows)
-
-  summed : check_answer s (sum k i x) cells draft ≡ granted → call_answer s (sum k i x) cells draft ≡ fault_answer (in_call Sum k (in_row i of_column))
-  summed passed =
-      answer_passed s (sum k i x) cells draft passed
-      ∙ one_row Sum k i (new_column s (sum k i x) (cells_in s cells))
-      ∙ ap (λ (b : Bool). kept_answer Sum k i (kept (cond b (sum_cell (cells_in s cells x) s.rows) (cells_in s cells k i)))) (eq-eqb i i refl)
-      ∙ lifted_answer Sum k i of_column
-
-  pub sum_past : (f : SheetFault) → check_answer s (sum k i x) cells draft ≡ granted → in_call Sum k (sum_at i (column s cells x) s.rows) ≡ Err f → call_answer s (sum k i x) cells draft ≡ refused (BeyondLimit f)
-  sum_past f passed e = summed passed ∙ ap fault_answer e
-
-  pub sum_granted : (r : Record) → check_answer s (sum k i x) cells draft ≡ granted → in_call Sum k (sum_at i (column s cells x) s.rows) ≡ Ok r → call_answer s (sum k i x) cells draft ≡ granted
-  sum_granted r passed e = summed passed ∙ ap fault_answer e
-
-  pub sum_written : (r : Record) → in_call Sum k (sum_at i (column s cells x) s.rows) ≡ Ok r
-      → slice_set (written_rows s.rows (cells_in s cells k)) i r ≡ written_rows s.rows (new_column s (sum k i x) (cells_in s cells))
-  sum_written r e =
-      ap (slice_set (written_rows s.rows (cells_in s cells k)) i) (kept_written (sum_cell (cells_in s cells x) s.rows) r (lifted_lowered Sum k i of_column ∙ ap lowered e))
-      ∙ one_written s.rows i (cells_in s cells k) (sum_cell (cells_in s cells x) s.rows)

@@ -6,6 +6,7 @@ pub mod Checks
 pub mod ColumnLawful
 pub mod Columns
 pub mod Containing
+pub mod Drafting
 pub mod ExactDrafts
 pub mod Exits
 pub mod FirstPast
@@ -23,7 +24,9 @@ pub mod Orders
 pub mod Owed
 pub mod Owes
 pub mod RefusalLawful
+pub mod RowByRow
 pub mod Sized
+pub mod SolvedRows
 pub mod Solving
 pub mod Standing
 pub mod Tellers

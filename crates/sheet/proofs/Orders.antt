@@ -71,7 +71,7 @@ few_columns s rows columns e = leb-true columns s.rows (and_parts (leb rows s.ro
 
 module _ (laws : Laws) (P : ℕ → Type 0) where
   -- what holds of a row from the rows solved before it holds of the rows of all steps
-  stepwise : (side : Side) (n : ℕ) → ((i : ℕ) → i < n → ((j : ℕ) → SolvedBefore side n i j → P j) → P i) → (most q : ℕ) → q < most → q < n → P (row_at side n q)
+  pub stepwise : (side : Side) (n : ℕ) → ((i : ℕ) → i < n → ((j : ℕ) → SolvedBefore side n i j → P j) → P i) → (most q : ℕ) → q < most → q < n → P (row_at side n q)
   stepwise side n next zero q r h = absurd (omega arith)
   stepwise side n next (suc most) q r h = next (row_at side n q) (laws.row_below side n q h)
       (λ j b. let e = laws.solved_earlier side n q j h b in subst P e.2 (stepwise side n next most e.0 (omega (arith, e.1)) (omega (arith, e.1))))

@@ -17,6 +17,9 @@ pub mod Promises
 pub mod Questions
 pub mod RefusalLaws
 pub mod Refusals
+pub mod RowLaws
 pub mod Runs
 pub mod Shapes
 pub mod Words
+pub mod WorkingOrders
+pub mod WorkingRows

@@ -1,6 +1,7 @@
 -- What the calls of the code answer and leave, in the words of the model: their contracts.
 use Rattle.std.specs.Prelude.{◌≡◌, ℕ, Bool, true, cond, List, [], ℤ, Ok, Err, Result, IfOk, ◌<◌}
 use Rattle.cells.specs.declared.cell.Record.{Record}
+use Rattle.layouts.specs.Matrix.{Matrix, Sound}
 use Rattle.sheet.specs.declared.refusal.Refusal.{Refusal}
 use Rattle.sheet.specs.declared.shape.Shape.{Shape}
 use Rattle.sheet.specs.declared.states.Drafted.{Drafted}
@@ -10,7 +11,7 @@ use Rattle.sheet.specs.declared.states.Refused.{Refused}
 use Rattle.sheet.specs.declared.states.StillDrafted.{StillDrafted}
 use Rattle.sheet.specs.declared.states.Working.{Working}
 use Rattle.sheet.specs.Answers.{Stage, filling, working, drafted, Ask, setting, beginning, calling, posting, withdrawing, open_answer, set_answer, call_answer, answer, stage_after, cells_after, draft_after, cells_opened, draft_opened}
-use Rattle.sheet.specs.Calls.{Call, target}
+use Rattle.sheet.specs.Calls.{Meaning, Call, target}
 use Rattle.sheet.specs.Checks.{Answer, granted, refused}
 use Rattle.sheet.specs.Memory.{has_both}
 
@@ -91,6 +92,15 @@ pub record Drafts (s : Shape) (call : Call) (cells draft : List Record) (result 
   pub leaves_draft : draft' ≡ draft_after s (calling call) cells draft (call_answer s call cells draft)
   pub aims : IfOk result (λ u. target call < s.columns)
   pub right_size : IfOk result (λ u. has_both s cells draft' ≡ true)
+
+-- of a call over a layout: what the layout means is sound, and is the operand of the call
+pub record CallsOver (s : Shape) (m : Matrix) (call : Meaning → Call) (cells draft : List Record) (result : Result Drafted Refused) (draft' : List Record) : Type 0 where
+  pub sound : Sound m
+  pub calls : Calls s (call (record { matrix = m; sound = sound })) cells draft result draft'
+
+pub record DraftsOver (s : Shape) (m : Matrix) (call : Meaning → Call) (cells draft : List Record) (result : Result (Unit {0}) Refusal) (draft' : List Record) : Type 0 where
+  pub sound : Sound m
+  pub drafts : Drafts s (call (record { matrix = m; sound = sound })) cells draft result draft'
 
 -- Drafted::post of a draft for column k, supplied both; one that is refused is handed back with its draft standing
 pub record Posts (s : Shape) (k : ℕ) (cells draft : List Record) (result : Result Working StillDrafted) (cells' draft' : List Record) : Type 0 where

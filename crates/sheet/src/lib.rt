@@ -2,9 +2,11 @@
 #![tactic(auto)]
 
 mod column;
+mod formulas;
 pub mod laws;
 mod memory;
 mod new_columns;
+mod order;
 pub mod permutation;
 pub mod questions;
 pub mod refusal;
@@ -12,3 +14,4 @@ mod rows;
 pub mod shape;
 pub mod states;
 pub mod words;
+mod working_out;

@@ -10,6 +10,7 @@ use crate::shape::Shape;
 pub mod calling;
 mod checking;
 pub mod closing;
+pub mod formula_calls;
 pub mod opening;
 
 // Opened, its cells empty but for those that were set since.

@@ -1,4 +1,4 @@
-// The calls of a working sheet.
+// The calls of a working sheet that take cells over as they are, or joined.
 ghost use Rattle.std.specs.Prelude.{◌≡◌, [], ◌∷◌, ◌<◌, ◌≤◌, true, false, IfOk, IfErr, MatchResult, slice_set, nat_lt};
 ghost use Rattle.sheet.specs.Answers.{working, drafted, calling, check_answer, call_answer, draft_after, empties_draft};
 ghost use Rattle.cells.specs.Worked.{sum_at};
@@ -23,7 +23,7 @@ use cells::rules::JoinRule;
 
 impl Working {
     // What became of a call on column k: the draft stands for it, or the sheet is handed back.
-    fn drafted(self, k: usize, came: Result<(), Refusal>) -> Result<Drafted, Refused>
+    pub(super) fn drafted(self, k: usize, came: Result<(), Refusal>) -> Result<Drafted, Refused>
         requires { IfOk came (λ u. k < self.shape.columns) }
         ensures { MatchResult came (λ u. answered_call result ≡ record { answer = granted; stage = drafted k; shape = self.shape }) (λ r. answered_call result ≡ record { answer = refused r; stage = working; shape = self.shape }) }
     {
@@ -37,73 +37,6 @@ impl Working {
                 refusal,
                 sheet: self,
             }),
-        }
-    }
-
-    fn check_sum(
-        &self,
-        k: usize,
-        i: usize,
-        x: usize,
-        cells: &[Record],
-        draft: &[Record],
-    ) -> Result<(), Refusal>
-        ensures answer { answer_of result ≡ check_answer self.now.shape (sum k i x) cells.now draft.now }
-        ensures passed { IfOk result (λ u. (has_both self.now.shape cells.now draft.now ≡ true) × (k < self.now.shape.columns) × (x < self.now.shape.columns) × (i < self.now.shape.rows)) }
-        ensures early { IfErr result (λ r. empties_draft r ≡ false) }
-    {
-        let call = CallName::Sum;
-        self.check_lengths(call, k, cells, draft)?;
-        self.check_column(call, k)?;
-        self.check_column(call, x)?;
-        self.check_row(call, k, i)
-    }
-
-    // Σ x_j over all rows, as the record of cell i.
-    fn summed(&self, k: usize, i: usize, x: usize, cells: &[Record]) -> Result<Record, SheetFault>
-        requires whole { has_cells self.now.shape cells.now ≡ true }
-        requires named { x < self.now.shape.columns }
-        ensures { result ≡ in_call Sum k (sum_at i (column self.now.shape cells.now x) self.now.shape.rows) }
-    {
-        let terms = Terms {
-            count: self.shape.rows,
-        };
-        let column = self.shape.column(cells, x);
-        Ok(sum(column, terms, i).map_err(|fault| (CallName::Sum, k, fault))?)
-    }
-
-    // The column as it reads, but for the record in cell i.
-    fn write_cell(&self, k: usize, i: usize, record: Record, cells: &[Record], draft: &mut [Record])
-        requires lengths { has_both self.now.shape cells.now draft.old ≡ true }
-        requires named { (k < self.now.shape.columns) × (i < self.now.shape.rows) }
-        ensures { draft.new ≡ slice_set (written_rows self.now.shape.rows (cells_in self.now.shape cells.now k)) i «record» }
-    {
-        let column = self.shape.column(cells, k);
-        write_rows(&Copied { column }, draft);
-        draft[i] = record;
-    }
-
-    #[tactic(auto, using(crate::proofs::Exits::answer_stopped, crate::proofs::Exits::sum_past, crate::proofs::Exits::sum_written, crate::proofs::Exits::sum_granted))]
-    fn sum_rows(
-        &self,
-        k: usize,
-        i: usize,
-        x: usize,
-        cells: &[Record],
-        draft: &mut [Record],
-    ) -> Result<(), Refusal>
-        ensures { Drafts self.now.shape (sum k i x) cells.now draft.old result draft.new }
-    {
-        self.check_sum(k, i, x, cells, draft)?;
-        match self.summed(k, i, x, cells) {
-            Ok(record) => {
-                self.write_cell(k, i, record, cells, draft);
-                Ok(())
-            }
-            Err(fault) => {
-                clear(draft);
-                Err(Refusal::from(fault))
-            }
         }
     }
 
@@ -183,21 +116,6 @@ impl Working {
         };
         write_rows(&permuted, draft);
         Ok(())
-    }
-
-    // Cell i of column k becomes the sum of column x over all rows; the others stay.
-    pub fn sum(
-        self,
-        k: usize,
-        i: usize,
-        x: usize,
-        cells: &[Record],
-        draft: &mut [Record],
-    ) -> Result<Drafted, Refused>
-        ensures { Calls self.shape (sum k i x) cells.now draft.old result draft.new }
-    {
-        let came = self.sum_rows(k, i, x, cells, draft);
-        self.drafted(k, came)
     }
 
     // Each cell of column k becomes the join of itself with the one of column x.

@@ -1,6 +1,7 @@
 // The checks that calls of a working sheet share: each looks at one thing, or at a few in rising number.
-ghost use Rattle.std.specs.Prelude.{◌≡◌, [], ◌∷◌, ◌<◌, ◌≤◌, true, false, IfOk, MatchResult};
-ghost use Rattle.sheet.specs.Checks.{granted, check, first_refusal, column_named};
+ghost use Rattle.std.specs.Prelude.{◌≡◌, [], ◌∷◌, map, ◌<◌, ◌≤◌, true, false, IfOk, MatchResult};
+ghost use Rattle.layouts.specs.Orders.{rows_in_order};
+ghost use Rattle.sheet.specs.Checks.{granted, check, first_refusal, column_named, has_room, divides};
 ghost use Rattle.sheet.specs.Memory.{has_both};
 ghost use Rattle.sheet.specs.Outcomes.{answer_of};
 ghost use Rattle.sheet.specs.declared.refusal.Refusal.TheVariants.{WrongLength, NoSuchColumn, NoSuchRow};
@@ -8,6 +9,8 @@ ghost use Rattle.sheet.specs.declared.refusal.Refusal.TheVariants.{WrongLength, 
 use crate::refusal::{CallName, Refusal};
 use crate::states::Working;
 use cells::cell::Record;
+use layouts::layout::{Layout, Triangular};
+use layouts::solve::first_zero;
 
 impl Working {
     pub(super) fn check_lengths(
@@ -60,6 +63,38 @@ impl Working {
             Ok(())
         } else {
             Err(Refusal::NoSuchRow { call, column, row })
+        }
+    }
+
+    // A layout has at most as many rows, and as many columns, as a column has cells.
+    pub(super) fn check_room<L: Layout>(
+        &self,
+        call: CallName,
+        column: usize,
+        layout: &L,
+    ) -> Result<(), Refusal>
+        ensures answer { answer_of result ≡ first_refusal (has_room self.now.shape call column (L.Layout.meaning layout.now) ∷ []) granted }
+        ensures passed { IfOk result (λ u. (L.Layout.meaning layout.now).rows ≤ self.now.shape.rows) }
+    {
+        let most = self.shape.rows;
+        if layout.rows() <= most && layout.columns() <= most {
+            Ok(())
+        } else {
+            Err(Refusal::LayoutTooLarge { call, column })
+        }
+    }
+
+    // No diagonal entry that is not empty holds 0. All are looked at, in working order, before any row is worked.
+    pub(super) fn check_divisors<T: Triangular>(
+        &self,
+        column: usize,
+        layout: &T,
+    ) -> Result<(), Refusal>
+        ensures { answer_of result ≡ first_refusal (map (divides column (T.Layout.meaning layout.now)) (rows_in_order (T.Triangular.half layout.now) (T.Layout.meaning layout.now).rows)) granted }
+    {
+        match first_zero(layout) {
+            None => Ok(()),
+            Some(row) => Err(Refusal::DivisorHoldsZero { column, row }),
         }
     }
 }

@@ -1,0 +1,5 @@
+use Rattle.std.proofs.Common.{rules}
+use Rattle.sheet.proofs.states.Working.solve.Goals as goal
+
+pub returns : goal.returns
+returns g c = let d = c.solve_rows-came.ensures in let e = d.drafts in record { sound = d.sound; calls = search rules }
