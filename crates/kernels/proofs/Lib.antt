@@ -1,1 +1,2 @@
+mod Meanings
 mod Opens

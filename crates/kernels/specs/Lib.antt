@@ -1,2 +1,3 @@
+pub mod Soundness
 pub mod Sums
 pub mod Whole

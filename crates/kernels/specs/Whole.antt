@@ -3,13 +3,29 @@ use Rattle.std.specs.Prelude.{◌≡◌, ℕ, Bool, true, false, List, Option, S
 use Rattle.rounding.specs.declared.fault.Bound.{Bound}
 use Rattle.rounding.specs.declared.fault.Bound.TheVariants.{Lower, Upper}
 use Rattle.cells.specs.declared.cell.Record.{Record}
+use Rattle.layouts.specs.declared.side.Side.{Side}
+use Rattle.layouts.specs.Matrix.{Matrix, Sound}
 use Rattle.sheet.specs.declared.shape.Shape.{Shape}
 use Rattle.sheet.specs.Answers.{open_answer, call_answer, calling, draft_after, cells_opened, draft_opened}
-use Rattle.sheet.specs.Calls.{Call, target}
+use Rattle.sheet.specs.Calls.{Meaning, Call, dot, product, solve, target}
 use Rattle.sheet.specs.Checks.{Answer, granted, refused}
 use Rattle.sheet.specs.Memory.{blanks, with_column}
 use Rattle.sheet.specs.Refusals.{number, row_of, bound_of}
 use Rattle.kernels.specs.declared.answer.AnswerRecord.{AnswerRecord}
+use Rattle.kernels.specs.declared.asked.Asked.{Asked}
+
+abbrev pub shape_of : Asked → Shape
+shape_of a = record { scale = a.scale; rows = a.rows; columns = a.columns }
+
+-- the calls, with the operands that stand in no layout
+abbrev pub dot_of : Asked → (row other : ℕ) → Call
+dot_of a row other = dot a.target row a.operand other a.alpha a.beta
+
+abbrev pub product_of : Asked → Meaning → Call
+product_of a l = product a.target a.operand l a.alpha a.beta
+
+abbrev pub solve_of : Asked → Side → Meaning → Call
+solve_of a side t = solve a.target side t a.alpha
 
 abbrev pub is_upper : Option Bound → Bool
 is_upper None = false
@@ -41,3 +57,8 @@ pub record Works (s : Shape) (call : Call) (own cells draft : List Record) (resu
   pub leaves_own : own' ≡ cells_opened s own (open_answer s own draft)
   pub leaves_cells : cells' ≡ cells_posted s call cells (whole_answer s call own cells draft)
   pub leaves_draft : draft' ≡ draft_opened s draft (open_answer s own draft)
+
+-- of a call over a layout: what the layout means is sound, and is the operand of the call
+pub record WorksOver (s : Shape) (m : Matrix) (call : Meaning → Call) (own cells draft : List Record) (result : AnswerRecord) (own' cells' draft' : List Record) : Type 0 where
+  pub sound : Sound m
+  pub works : Works s (call (record { matrix = m; sound = sound })) own cells draft result own' cells' draft'

@@ -3,7 +3,10 @@
 #![tactic(auto)]
 
 pub mod answer;
+pub mod asked;
+mod calls;
 mod columns;
+mod operands;
 mod rows;
 mod square;
 pub mod sum;

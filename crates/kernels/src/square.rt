@@ -1,7 +1,7 @@
 // Square matrices with n rows and columns over the run that C lends, one of each layout that the benchmark times.
 ghost use Rattle.std.specs.Prelude.{◌≡◌};
 ghost use Rattle.layouts.specs.declared.side.Side.TheVariants.{Lower};
-ghost use Rattle.layouts.specs.Layers.{symmetric, transposed};
+ghost use Rattle.layouts.specs.Layers.{symmetric, transposed, triangle};
 ghost use Rattle.layouts.specs.Stored.{dense, band, packed};
 
 use cells::cell::Record;
@@ -12,6 +12,7 @@ use layouts::packed::Packed;
 use layouts::side::Side;
 use layouts::symmetric::Symmetric;
 use layouts::transposed::Transposed;
+use layouts::triangle::Triangle;
 
 pub(crate) fn dense<'a>(run: &'a [Record], n: usize) -> Dense<'a>
     ensures { ⟦<Dense<'a> as Layout>⟧.meaning result ≡ dense run.now n n n }
@@ -44,7 +45,8 @@ pub(crate) fn band<'a>(
 }
 
 pub(crate) fn packed<'a>(run: &'a [Record], n: usize) -> Packed<'a>
-    ensures { ⟦<Packed<'a> as Layout>⟧.meaning result ≡ packed run.now Lower n }
+    ensures side { result.side ≡ Lower }
+    ensures meaning { ⟦<Packed<'a> as Layout>⟧.meaning result ≡ packed run.now Lower n }
 {
     Packed {
         run,
@@ -69,5 +71,16 @@ pub(crate) fn transposed<'a>(run: &'a [Record], n: usize) -> Transposed<Dense<'a
 {
     Transposed {
         below: dense(run, n),
+    }
+}
+
+// The lower triangle of a layout.
+pub(crate) fn lower_of<L: Layout>(below: L) -> Triangle<L>
+    ensures side { result.side ≡ Lower }
+    ensures below { result.below ≡ below }
+{
+    Triangle {
+        below,
+        side: Side::Lower,
     }
 }

@@ -5,9 +5,10 @@ ghost use Rattle.sheet.specs.Calls.{Call};
 ghost use Rattle.sheet.specs.Checks.{granted, refused};
 ghost use Rattle.sheet.specs.Memory.{has_cells, blanks};
 ghost use Rattle.sheet.specs.Outcomes.{Calls};
-ghost use Rattle.kernels.specs.Whole.{answer_record, cells_posted, Works};
+ghost use Rattle.kernels.specs.Whole.{shape_of, answer_record, cells_posted, Works};
 
 use crate::answer::AnswerRecord;
+use crate::asked::Asked;
 use cells::cell::Record;
 use sheet::refusal::Refusal;
 use sheet::shape::Shape;
@@ -114,60 +115,18 @@ fn rounds<C: SheetCall>(
 // A number of rounds, and then the call with its draft posted.
 pub(crate) fn worked<C: SheetCall>(
     call: &C,
-    shape: Shape,
-    count: usize,
+    asked: Asked,
     own: &mut [Record],
     cells: &mut [Record],
     draft: &mut [Record],
 ) -> AnswerRecord
-    ensures { Works shape (C.SheetCall.call call.now) own.old cells.old draft.old result own.new cells.new draft.new }
+    ensures { Works (shape_of asked) (C.SheetCall.call call.now) own.old cells.old draft.old result own.new cells.new draft.new }
 {
-    match opened(shape, own, draft) {
+    match opened(asked.shape(), own, draft) {
         Ok(sheet) => {
-            let sheet = rounds(call, sheet, count, cells, draft);
+            let sheet = rounds(call, sheet, asked.rounds, cells, draft);
             posted(call, sheet, cells, draft)
         }
         Err(refusal) => AnswerRecord::from(refusal),
     }
-}
-
-// For a first try
-#[derive(Clone, Copy)]
-pub(crate) struct Copies {
-    pub(crate) x: usize,
-}
-
-ghost use Rattle.sheet.specs.Calls.{copy};
-
-impl SheetCall for Copies {
-    ghost call = { λ c. copy 0 c.x };
-
-    fn draft(
-        &self,
-        sheet: Working,
-        cells: &[Record],
-        draft: &mut [Record],
-    ) -> Result<Drafted, Refused> {
-        sheet.copy(0, self.x, cells, draft)
-    }
-}
-
-#[unsafe(no_mangle)]
-pub extern "C" fn bepyndo_copy(
-    n: usize,
-    scale: i64,
-    x: usize,
-    rounds: usize,
-    own: &mut [Record],
-    cells: &mut [Record],
-    draft: &mut [Record],
-) -> AnswerRecord
-    ensures { Works (record { scale = scale; rows = n; columns = 2 }) (copy 0 x) own.old cells.old draft.old result own.new cells.new draft.new }
-{
-    let shape = Shape {
-        scale,
-        rows: n,
-        columns: 2,
-    };
-    worked(&Copies { x }, shape, rounds, own, cells, draft)
 }
