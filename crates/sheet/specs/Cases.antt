@@ -1,16 +1,16 @@
 -- Worked cases of whole calls and of refusals, put before those of layouts and of cells.
 use Rattle.std.specs.Prelude.{ℕ, List, [], ◌∷◌, ℤ, pos, neg_ℤ, Some}
-use Rattle.rounding.specs.declared.fault.Bound.TheVariants.{Upper}
+use Rattle.rounding.specs.declared.fault.Bound.TheVariants.{Lower, Upper}
 use Rattle.cells.specs.declared.cell.Record.{Record}
 use Rattle.cells.specs.Cases.{Cases, case}
 use Rattle.layouts.specs.Cases.{cases as cases-of-layouts}
 use Rattle.layouts.specs.declared.side.Side.TheVariants.{Lower as LowerSide, Upper as UpperSide}
-use Rattle.layouts.specs.Stored.{packed, packed_sound}
-use Rattle.sheet.specs.declared.refusal.CallName.TheVariants.{Sum, Blend, Product, Copy, Permute}
+use Rattle.layouts.specs.Stored.{dense, dense_sound, packed, packed_sound}
+use Rattle.sheet.specs.declared.refusal.CallName.TheVariants.{Sum, Blend, Product, Solve, Copy, Permute}
 use Rattle.sheet.specs.declared.refusal.Refusal.TheVariants.{ScaleOutside, ShapeOutside, WrongLength, NoSuchColumn, NoSuchRow, NoCell, LayoutTooLarge, DivisorHoldsZero, NoPermutation}
 use Rattle.sheet.specs.declared.shape.Shape.{Shape}
 use Rattle.sheet.specs.Answers.{calling, call_answer, draft_after}
-use Rattle.sheet.specs.Calls.{Meaning, Call, blend, solve}
+use Rattle.sheet.specs.Calls.{Meaning, Call, dot, blend, product, solve}
 use Rattle.sheet.specs.Checks.{Answer, refused, past_limit}
 use Rattle.sheet.specs.Memory.{blanks}
 use Rattle.sheet.specs.Refusals.{number, call_of, column_of, row_of, bound_of}
@@ -95,5 +95,37 @@ numbers rest =
     (case (row_of (past_limit Blend 3 5 Upper)) 5
     (case (bound_of (past_limit Blend 3 5 Upper)) (Some Upper) rest)))))))))))))
 
+-- ---- whole calls: which column is read for which operand, which row is told, and what is left of a draft that was not empty
+
+abbrev other : List Record
+other = point 4 ∷ (point 4 ∷ [])
+
+abbrev leaves : Shape → Call → List Record → List Record
+leaves s call cells = draft_after s (calling call) cells other (call_answer s call cells other)
+
+-- U = 10: x, y and the target, whose last cell is r
+abbrev three : (r : Record) → List Record
+three r = rec (pos 10) (pos 20) ∷ (rec (minus 5) (pos 5) ∷ (point 3 ∷ (rec (pos 2) (pos 4) ∷ (point 9 ∷ (r ∷ [])))))
+
+abbrev stored : (rows columns : ℕ) → List Record → Meaning
+stored rows columns run = record { matrix = dense run rows columns rows; sound = dense_sound run rows columns rows }
+
+-- both rows of a product by it are beyond the limit, with U = 1
+abbrev too_great : Call
+too_great = product 1 0 (stored 2 1 (point 131071 ∷ (point 131071 ∷ []))) (point 1) (point 0)
+
+abbrev wholes : Cases → Cases
+wholes rest =
+    case (leaves (of_two 10 3) (dot 2 1 0 1 (point 7) (point 0)) (three (point 0))) (point 9 ∷ (rec (pos 0) (pos 6) ∷ []))
+    (case (leaves (of_two 10 3) (dot 2 1 0 1 (point 7) (point 20)) (three (point 10))) (point 9 ∷ (rec (pos 20) (pos 26) ∷ []))
+    (case (leaves (of_two 10 2) (blend 1 0 (point 5) (point 10)) (rec (pos 1) (pos 3) ∷ (point 0 ∷ (point 10 ∷ (point 0 ∷ []))))) (rec (pos 10) (pos 12) ∷ (point 0 ∷ []))
+    -- a cell beyond the rows of the layout stays
+    (case (leaves (of_two 1 2) (product 1 0 (stored 1 2 (point 2 ∷ (point 3 ∷ []))) (point 10) (point 100)) (point 5 ∷ (point 7 ∷ (point 4 ∷ (point 9 ∷ []))))) (point 710 ∷ (point 9 ∷ []))
+    -- both bounds of both rows are beyond the limit: the lower of the first row is told, for an upper solve of the last
+    (case (call_answer (of_two 1 2) too_great (at_limit (point 0)) other) (refused (past_limit Product 1 0 Lower))
+    (case (leaves (of_two 1 2) too_great (at_limit (point 0))) (blanks 2)
+    (case (call_answer (of_two 10 1) (solve 0 UpperSide (above last) (point 131071)) (point 131071 ∷ (point 131071 ∷ [])) other) (refused (past_limit Solve 0 1 Lower))
+    (case (leaves (of_two 10 1) (solve 0 LowerSide (below zero) (point 10)) (point 30 ∷ (point 50 ∷ []))) other rest)))))))
+
 abbrev pub cases : Cases
-cases = numbers (solves (blends cases-of-layouts))
+cases = numbers (solves (blends (wholes cases-of-layouts)))
