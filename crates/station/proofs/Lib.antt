@@ -1,5 +1,8 @@
 pub mod Calls
+pub mod Columns
 pub mod Findings
 pub mod Sheets
-mod Soundness
+pub mod Soundness
+pub mod Stops
 pub mod Three
+pub mod Totals

@@ -1,3 +1,5 @@
 pub mod Boxes
 pub mod Findings
 pub mod Lacks
+pub mod Pressures
+pub mod Stops

@@ -1,25 +1,19 @@
-use Rattle.std.proofs.Common.{◌∙◌, ap, arith}
+use Rattle.std.proofs.Common.{ℕ, ◌+◌, ◌*◌, ◌∙◌, ap, arith}
 use Rattle.cells.specs.Joins.{met}
 use Rattle.sheet.specs.Memory.{cells_in}
-use Rattle.station.specs.Boxes.{box_shape, pair_at}
+use Rattle.station.specs.Boxes.{dam_shape, dip_at}
 use Rattle.station.proofs.job.Memory.run.Goals as goal
 
-pub returns-clause-pairs : goal.returns-clause-pairs
-returns-clause-pairs c = λ row h.
-    c.meet.ensures.elsewhere 2 row (λ e. omega (arith, e)) h
-    ∙ (c.copy-sheet-2.ensures.elsewhere 2 row (λ e. omega (arith, e)) h
-    ∙ (c.copy-sheet.ensures.there row h
-    ∙ (c.total-total.ensures.elsewhere 0 row (λ e. omega (arith, e)) h
-    ∙ c.fill.ensures.worked row h)))
+pub returns-in-Ok-clause-pressures : goal.returns-in-Ok-clause-pressures
+returns-in-Ok-clause-pressures c =
+    let f : ℕ = c.args.nth * 4 in
+    λ row h. c.total-total.ensures.elsewhere (f + 1) row (λ e. omega (arith, e)) h ∙ (c.compare-sheet.ensures.elsewhere (f + 1) row (λ e. omega (arith, e)) h ∙ c.in-Ok.ensures.there row h)
 
-pub returns-clause-agreed : goal.returns-clause-agreed
-returns-clause-agreed c = λ row h.
-    let pair = c.copy-sheet-2.ensures.there row h
-    ∙ (c.copy-sheet.ensures.elsewhere 0 row (λ e. omega (arith, e)) h
-    ∙ (c.total-total.ensures.elsewhere 0 row (λ e. omega (arith, e)) h
-    ∙ c.fill.ensures.worked row h)) in
-    let dip = c.copy-sheet-2.ensures.elsewhere 1 row (λ e. omega (arith, e)) h
-    ∙ (c.copy-sheet.ensures.elsewhere 1 row (λ e. omega (arith, e)) h
-    ∙ (c.total-total.ensures.elsewhere 1 row (λ e. omega (arith, e)) h
-    ∙ c.fill.ensures.dips row h)) in
-    c.meet.ensures.there row h ∙ (ap (λ v. met v (cells_in box_shape c.copy-sheet-2.new.self.cells 1 row)) pair ∙ ap (λ v. met (pair_at c.args.worked.now row) v) dip)
+pub returns-in-Ok-clause-agreed : goal.returns-in-Ok-clause-agreed
+returns-in-Ok-clause-agreed c =
+    let f : ℕ = c.args.nth * 4 in
+    λ row h.
+    let dip = c.work_out.ensures.elsewhere (f + 2) row (λ e. omega (arith, e)) h ∙ c.requires.filled.dips row h in
+    c.total-total.ensures.elsewhere (f + 2) row (λ e. omega (arith, e)) h
+    ∙ (c.compare-sheet.ensures.there row h
+    ∙ (ap (λ v. met v (cells_in dam_shape c.work_out.new.self.cells (f + 1) row)) dip ∙ ap (met (dip_at c.args.junction.now.dips row)) (c.in-Ok.ensures.there row h)))

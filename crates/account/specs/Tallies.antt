@@ -1,0 +1,15 @@
+-- How calls are counted.
+use Rattle.std.specs.Prelude.{ℕ, ◌+◌, min, Ok, Err, Result}
+use Rattle.account.specs.declared.tally.Tally.{Tally}
+
+-- one more, up to the greatest count that is held
+abbrev pub one_more : ℕ → ℕ
+one_more n = min (n + 1) 4294967295
+
+-- a call that was granted, or one that was refused
+abbrev pub answered : {T E : Type 0} → Result T E → Tally → Tally
+answered (Ok x) t = record { granted = one_more t.granted; refused = t.refused; posted = t.posted }
+answered (Err e) t = record { granted = t.granted; refused = one_more t.refused; posted = t.posted }
+
+abbrev pub one_posted : Tally → Tally
+one_posted t = record { granted = t.granted; refused = t.refused; posted = one_more t.posted }
