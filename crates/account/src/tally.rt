@@ -1,6 +1,6 @@
 // The calls that a sheet is asked for, counted by what they answer.
 ghost use Rattle.std.specs.Prelude.{◌≡◌};
-ghost use Rattle.account.specs.Tallies.{answered, one_posted};
+ghost use Rattle.account.specs.Tallies.{answered, one_posted, no_calls};
 
 // How many calls were granted and how many refused, and how many columns were posted. A post is a call too, so it is among the granted.
 // A count past what the number holds stays at the greatest.
@@ -13,7 +13,7 @@ pub struct Tally {
 
 impl Tally {
     pub fn new() -> Tally
-        ensures { result ≡ record { granted = 0; refused = 0; posted = 0 } }
+        ensures { result ≡ no_calls }
     {
         Tally {
             granted: 0,

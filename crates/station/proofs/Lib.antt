@@ -1,5 +1,6 @@
 pub mod Calls
 pub mod Columns
+pub mod Counts
 pub mod Findings
 pub mod Sheets
 pub mod Soundness

@@ -1,4 +1,5 @@
 pub mod Boxes
+pub mod Counts
 pub mod Findings
 pub mod Lacks
 pub mod Pressures

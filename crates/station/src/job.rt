@@ -12,8 +12,10 @@ ghost use Rattle.cells.specs.Joins.{met};
 ghost use Rattle.rounding.specs.declared.fault.Bound.{Bound};
 ghost use Rattle.account.specs.declared.outcome.NoPair.TheVariants.{PastLimit};
 ghost use Rattle.account.specs.Outcomes.{told, to_tell, within_limit};
+ghost use Rattle.account.specs.Tallies.{granted_call, one_posted, no_calls};
 ghost use Rattle.sheet.specs.Memory.{cells_in};
 ghost use Rattle.station.specs.Boxes.{dam_shape, Filled, dip_at, missing_words};
+ghost use Rattle.station.specs.Counts.{set_call, box_sets, posted_call, call_then, no_others, sum_stop, box_calls, first_calls, of_boxes};
 ghost use Rattle.station.specs.Pressures.{calibrated, pressure};
 ghost use Rattle.station.specs.Stops.{first_past, stops_at_bound, solve_stop, box_stop, stop_in, SheetGoesOn};
 ghost use Rattle.station.specs.declared.line.Junction.{Junction};
@@ -80,7 +82,9 @@ pub struct Memory {
 }
 
 impl Memory {
-    pub fn new() -> Memory {
+    pub fn new() -> Memory
+        ensures { result.calls ≡ no_calls }
+    {
         Memory {
             cells: [EMPTY; CELLS],
             draft: [EMPTY; TIPS_OF_A_BOX],
@@ -98,6 +102,7 @@ impl Memory {
     fn open(&mut self) -> Filling
         ensures sheet { result.shape ≡ dam_shape }
         ensures cells { (column row : ℕ) → column < COLUMNS → row < TIPS_OF_A_BOX → cells_in dam_shape self.new.cells column row ≡ empty }
+        ensures calls { self.new.calls ≡ granted_call self.old.calls }
     {
         let answer = Filling::open(
             i64::from(UNIT),
@@ -119,6 +124,7 @@ impl Memory {
         requires unset { cells_in dam_shape self.old.cells column row ≡ empty }
         ensures there { cells_in dam_shape self.new.cells column row ≡ cell_value cell }
         ensures elsewhere { (j i : ℕ) → i < TIPS_OF_A_BOX → ((j ≡ column) × (i ≡ row) → ⊥) → cells_in dam_shape self.new.cells j i ≡ cells_in dam_shape self.old.cells j i }
+        ensures calls { self.new.calls ≡ set_call (cell_value cell) self.old.calls }
     {
         let Some(pair) = cell else {
             return;
@@ -135,6 +141,7 @@ impl Memory {
         requires sheet { sheet.shape ≡ dam_shape }
         ensures sheet { result.shape ≡ dam_shape }
         ensures cells { self.new.cells ≡ self.old.cells }
+        ensures calls { self.new.calls ≡ granted_call self.old.calls }
     {
         let answer = sheet.begin(&self.cells);
         match self.calls.answered(answer) {
@@ -148,6 +155,7 @@ impl Memory {
         ensures sheet { result.shape ≡ dam_shape }
         ensures there { (row : ℕ) → row < TIPS_OF_A_BOX → cells_in dam_shape self.new.cells sheet.column row ≡ cell_at self.old.draft row }
         ensures elsewhere { (j row : ℕ) → j ≢ sheet.column → row < TIPS_OF_A_BOX → cells_in dam_shape self.new.cells j row ≡ cells_in dam_shape self.old.cells j row }
+        ensures calls { self.new.calls ≡ one_posted (granted_call self.old.calls) }
     {
         let answer = sheet.post(&mut self.cells, &mut self.draft);
         match self.calls.answered(answer) {
@@ -160,12 +168,14 @@ impl Memory {
     }
 
     // Sets all that is held of a box, in the columns that begin with the first.
+    #[tactic(auto, using(crate::proofs::Counts::no_tips))]
     fn fill_box(&mut self, sheet: &Filling, first: usize, junction: &Junction)
         requires sheet { sheet.now.shape ≡ dam_shape }
         requires place { first + COLUMNS_OF_A_BOX ≤ COLUMNS }
         requires unset { (j row : ℕ) → first ≤ j → j < COLUMNS → row < TIPS_OF_A_BOX → cells_in dam_shape self.old.cells j row ≡ empty }
         ensures filled { Filled self.new.cells first junction.now }
         ensures elsewhere { (j row : ℕ) → (j < first) ⊎ (first + COLUMNS_OF_A_BOX ≤ j) → row < TIPS_OF_A_BOX → cells_in dam_shape self.new.cells j row ≡ cells_in dam_shape self.old.cells j row }
+        ensures calls { self.new.calls ≡ box_sets junction.now self.old.calls }
     {
         for row in 0..TIPS_OF_A_BOX {
             let reading = read(junction.readings[row]);
@@ -178,10 +188,12 @@ impl Memory {
     }
 
     // Sets all that is held of the dam, box after box.
+    #[tactic(auto, using(crate::proofs::Counts::no_boxes))]
     fn fill(&mut self, sheet: &Filling, dam: &[Junction; BOXES])
         requires sheet { sheet.now.shape ≡ dam_shape }
         requires unset { (j row : ℕ) → j < COLUMNS → row < TIPS_OF_A_BOX → cells_in dam_shape self.old.cells j row ≡ empty }
-        ensures { (nth : ℕ) (past : Junction) → nth < BOXES → Filled self.new.cells (nth * COLUMNS_OF_A_BOX) (slice_index_or dam.now nth past) }
+        ensures filled { (nth : ℕ) (past : Junction) → nth < BOXES → Filled self.new.cells (nth * COLUMNS_OF_A_BOX) (slice_index_or dam.now nth past) }
+        ensures calls { self.new.calls ≡ of_boxes box_sets dam.now BOXES self.old.calls }
     {
         for (nth, junction) in dam.iter().enumerate() {
             self.fill_box(sheet, nth * COLUMNS_OF_A_BOX, junction);
@@ -192,6 +204,7 @@ impl Memory {
     pub(crate) fn start(&mut self, dam: &[Junction; BOXES]) -> Working
         ensures sheet { result.shape ≡ dam_shape }
         ensures filled { (nth : ℕ) (past : Junction) → nth < BOXES → Filled self.new.cells (nth * COLUMNS_OF_A_BOX) (slice_index_or dam.now nth past) }
+        ensures calls { self.new.calls ≡ first_calls dam.now self.old.calls }
     {
         let sheet = self.open();
         self.fill(&sheet, dam);
@@ -213,6 +226,7 @@ impl Memory {
         ensures there { IfOk result (λ w. (row : ℕ) → row < TIPS_OF_A_BOX → cells_in dam_shape self.new.cells (first + PRESSURES) row ≡ calibrated junction.now row) }
         ensures unposted { IfErr result (λ e. self.new.cells ≡ self.old.cells) }
         ensures elsewhere { (j row : ℕ) → j ≢ first + PRESSURES → row < TIPS_OF_A_BOX → cells_in dam_shape self.new.cells j row ≡ cells_in dam_shape self.old.cells j row }
+        ensures calls { self.new.calls ≡ call_then (stop_in result) no_others self.old.calls }
     {
         // that the bounds of a cell are in order is one of the laws of layouts; the calls do nothing when the program runs
         cells::laws::laws_stand();
@@ -261,6 +275,7 @@ impl Memory {
         ensures there { IfOk result (λ w. (row : ℕ) → row < TIPS_OF_A_BOX → cells_in dam_shape self.new.cells (first + PRESSURES) row ≡ pressure junction.now row) }
         ensures unposted { IfErr result (λ e. self.new.cells ≡ self.old.cells) }
         ensures elsewhere { (j row : ℕ) → j ≢ first + PRESSURES → row < TIPS_OF_A_BOX → cells_in dam_shape self.new.cells j row ≡ cells_in dam_shape self.old.cells j row }
+        ensures calls { self.new.calls ≡ call_then (stop_in result) no_others self.old.calls }
     {
         // the column that solves the equations of the box is the only one, by the laws of the sheet; the calls do nothing when the
         // program runs
@@ -306,6 +321,7 @@ impl Memory {
         ensures came { stop_in result ≡ box_stop junction.now }
         ensures there { IfOk result (λ w. (row : ℕ) → row < TIPS_OF_A_BOX → cells_in dam_shape self.new.cells (first + PRESSURES) row ≡ pressure junction.now row) }
         ensures elsewhere { (j row : ℕ) → j ≢ first + PRESSURES → row < TIPS_OF_A_BOX → cells_in dam_shape self.new.cells j row ≡ cells_in dam_shape self.old.cells j row }
+        ensures calls { self.new.calls ≡ call_then (stops_at_bound (first_past (calibrated junction.now))) (call_then (solve_stop junction.now) no_others) self.old.calls }
     {
         let sheet = self.calibrate(sheet, first, junction)?;
         self.take_out_neighbours(sheet, first, junction)
@@ -319,6 +335,7 @@ impl Memory {
         ensures sheet { result.shape ≡ dam_shape }
         ensures there { (row : ℕ) → row < TIPS_OF_A_BOX → cells_in dam_shape self.new.cells (first + DIPS) row ≡ met (cells_in dam_shape self.old.cells (first + DIPS) row) (cells_in dam_shape self.old.cells (first + PRESSURES) row) }
         ensures elsewhere { (j row : ℕ) → j ≢ first + DIPS → row < TIPS_OF_A_BOX → cells_in dam_shape self.new.cells j row ≡ cells_in dam_shape self.old.cells j row }
+        ensures calls { self.new.calls ≡ posted_call self.old.calls }
     {
         let answer = sheet.join(
             first + DIPS,
@@ -341,6 +358,7 @@ impl Memory {
         ensures total { told result.1 ≡ to_tell (record {}) (within_limit (kept (sum_cell (cells_in dam_shape self.old.cells (first + PRESSURES)) TIPS_OF_A_BOX))) }
         ensures unposted { (bound : Bound) → result.1 ≡ Err (PastLimit bound) → self.new.cells ≡ self.old.cells }
         ensures elsewhere { (j row : ℕ) → j ≢ first + TOTAL → row < TIPS_OF_A_BOX → cells_in dam_shape self.new.cells j row ≡ cells_in dam_shape self.old.cells j row }
+        ensures calls { self.new.calls ≡ call_then (sum_stop (cells_in dam_shape self.old.cells (first + PRESSURES))) no_others self.old.calls }
     {
         // that the bounds of a sum are in order is one of the laws of cells; the call does nothing when the program runs
         cells::laws::laws_stand();
@@ -386,6 +404,7 @@ impl Memory {
         ensures agreed { IfOk result.1 (λ t. (row : ℕ) → row < TIPS_OF_A_BOX → cells_in dam_shape self.new.cells (nth * COLUMNS_OF_A_BOX + DIPS) row ≡ met (dip_at junction.now.dips row) (pressure junction.now row)) }
         ensures total { IfOk result.1 (λ t. told t ≡ to_tell (record {}) (within_limit (kept (sum_cell (pressure junction.now) TIPS_OF_A_BOX)))) }
         ensures elsewhere { (j row : ℕ) → (j < nth * COLUMNS_OF_A_BOX) ⊎ (nth * COLUMNS_OF_A_BOX + COLUMNS_OF_A_BOX ≤ j) → row < TIPS_OF_A_BOX → cells_in dam_shape self.new.cells j row ≡ cells_in dam_shape self.old.cells j row }
+        ensures calls { self.new.calls ≡ box_calls junction.now self.old.calls }
     {
         let first = nth * COLUMNS_OF_A_BOX;
         match self.work_out(sheet, first, junction) {

@@ -3,6 +3,7 @@ ghost use Rattle.std.specs.Prelude.{◌≡◌, ◌<◌, IfOk, MatchResult, vec_l
 ghost use Rattle.cells.specs.Cells.{cell_value};
 ghost use Rattle.account.specs.declared.outcome.NoPair.TheVariants.{Lacking};
 ghost use Rattle.account.specs.Outcomes.{told, to_tell};
+ghost use Rattle.station.specs.Counts.{all_calls};
 ghost use Rattle.station.specs.Findings.{box_total, said, unless_stopped, AllFound, AllTotals, ShownTightly};
 ghost use Rattle.station.specs.Lacks.{lack_of};
 ghost use Rattle.station.specs.Stops.{stopped, stop_row};
@@ -50,8 +51,9 @@ pub struct Found {
     pub calls: Tally,
 }
 
+#[tactic(auto, using(crate::proofs::Counts::no_boxes))]
 pub fn findings(heap: Global, dam: &[Junction; BOXES]) -> Result<Found, AllocError>
-    ensures { IfOk result (λ f. (vec_len f.tips ≡ 24) × (vec_len f.totals ≡ 8) × AllFound dam.now 24 f.tips.items × AllTotals dam.now 8 f.totals.items × ShownTightly dam.now) }
+    ensures { IfOk result (λ f. (vec_len f.tips ≡ 24) × (vec_len f.totals ≡ 8) × AllFound dam.now 24 f.tips.items × AllTotals dam.now 8 f.totals.items × (f.calls ≡ all_calls dam.now) × ShownTightly dam.now) }
 {
     // what the pairs mean rests on the laws of cells and of layouts; the calls do nothing when the program runs
     cells::laws::laws_stand();

@@ -12,10 +12,13 @@ use Rattle.station.specs.declared.job.Missing.{Missing}
 use Rattle.station.specs.declared.line.Junction.{Junction}
 use Rattle.station.specs.declared.stop.Stop.{Stop}
 use Rattle.station.specs.Boxes.{dam_shape, dip_at}
+use Rattle.account.specs.Tallies.{no_calls}
+use Rattle.station.specs.Counts.{box_calls, first_calls, of_boxes}
 use Rattle.station.specs.Findings.{AllFound, AllTotals, said, box_total, unless_stopped}
 use Rattle.station.specs.Lacks.{lack_of}
 use Rattle.station.specs.Pressures.{Shown, calibrated, pressure}
 use Rattle.station.specs.Stops.{box_stop, stop_row, stopped}
+use Rattle.station.proofs.Counts.{boxes_more}
 use Rattle.station.proofs.Findings.{found_in_box, found_here, not_stopped, totals_more, total_in_box}
 use Rattle.station.proofs.Sheets.{filled_stays}
 use Rattle.station.proofs.Soundness.{Laws, shown_tight}
@@ -24,6 +27,9 @@ use Rattle.station.proofs.working.findings.Goals as goal
 
 abbrev past : Junction
 past = record { readings = []; offsets = []; calibration = []; factors = []; dips = [] }
+
+pub run-came-requires-clause-filled : goal.run-came-requires-clause-filled
+run-came-requires-clause-filled c = c.loop-nth.invariant.filled c.loop-nth.nth past (omega arith) (omega (arith, c.loop-nth-test.true))
 
 pub became-outcome-requires : goal.became-outcome-requires
 became-outcome-requires c =
@@ -87,6 +93,7 @@ loop-nth-preserved c =
       totals_len = omega (arith, pushed.len, c.loop-nth.invariant.totals_len);
       totals = totals_more dam nth (vec_len c.loop-nth.totals) (vec_items c.loop-nth.totals) (vec_items c.push.new.self) x c.loop-nth.invariant.totals_len c.loop-nth.invariant.totals pushed.by_index.0 pushed.by_index.1
           (λ t. total ∙ ap (λ j. to_tell (record {}) (box_total j)) (sym (same t)));
+      calls = c.run-came.ensures.calls ∙ (ap (box_calls here) c.loop-nth.invariant.calls ∙ sym (boxes_more box_calls dam nth here (first_calls dam no_calls) same));
       sheet = c.run-came.ensures.sheet;
       filled = λ k j le lt. filled_stays c.loop-nth.memory.cells c.run-came.new.self.cells (k * 4) (get_or dam k j) (λ i row a b r. c.run-came.ensures.elsewhere i row (inr (omega (arith, le, a))) r)
           (c.loop-nth.invariant.filled k j (omega (arith, le)) lt);
@@ -105,5 +112,6 @@ returns c =
       c.loop-nth.invariant.totals_len ∙ eight,
       subst P all c.loop-nth.invariant.tips,
       subst Q eight c.loop-nth.invariant.totals,
+      c.calls-calls.ensures ∙ (c.loop-nth.invariant.calls ∙ ap (λ n. of_boxes box_calls dam n (first_calls dam no_calls)) eight),
       λ nth j place h. c.loop-nth.invariant.shown nth j place (omega (arith, eight, h)),
     )

@@ -3,6 +3,8 @@ use Rattle.std.specs.Prelude.{slice_index_or}
 use Rattle.arithmetic.specs.Values.{Tightly}
 use Rattle.station.specs.declared.line.Junction.{Junction}
 use Rattle.station.specs.Boxes.{dam_shape, Filled}
+use Rattle.account.specs.Tallies.{no_calls}
+use Rattle.station.specs.Counts.{of_boxes, box_calls, first_calls}
 use Rattle.station.specs.Findings.{AllFound, AllTotals}
 use Rattle.station.specs.Pressures.{Shown, calibrated}
 use Rattle.station.proofs.working.findings.Given as goal
@@ -13,6 +15,7 @@ invariant-loop-nth l = record {
   tips : AllFound l.dam (3 * l.nth) (vec_items l.tips);
   totals_len : vec_len l.totals ≡ l.nth;
   totals : AllTotals l.dam l.nth (vec_items l.totals);
+  calls : l.memory.calls ≡ of_boxes box_calls l.dam l.nth (first_calls l.dam no_calls);
   sheet : l.sheet.shape ≡ dam_shape;
   shown : (k : ℕ) (j : Junction) (place : ℕ) → k < l.nth → Tightly (pos 100) (Shown (slice_index_or l.dam k j) place) (calibrated (slice_index_or l.dam k j) place);
   filled : (k : ℕ) (past : Junction) → l.nth ≤ k → k < 8 → Filled l.memory.cells (k * 4) (slice_index_or l.dam k past);

@@ -1,8 +1,10 @@
 use Rattle.std.proofs.Common.{◌≡◌, ℕ, ◌+◌, ◌<◌, length, pos, sym, ap, ◌∙◌, rules, arith}
 use Rattle.std.proofs.lemmas.List.{get_or_default}
-use Rattle.cells.specs.Cells.{blank, read_as, cell_at}
+use Rattle.cells.specs.Cells.{blank, cell_value, read_as, cell_at}
 use Rattle.sheet.specs.Memory.{cells_in}
 use Rattle.station.specs.Boxes.{dam_shape, dip_at}
+use Rattle.station.specs.Counts.{set_call, tips_sets}
+use Rattle.station.proofs.Counts.{sets_same, tips_more}
 use Rattle.station.proofs.Sheets.{apart, all_set, one_more}
 use Rattle.station.proofs.job.Memory.fill_box.Goals as goal
 
@@ -33,6 +35,9 @@ loop-row-preserved c =
           (λ i h other. three.elsewhere (f + 2) i h (λ p. other p.1) ∙ (two.elsewhere (f + 2) i h (λ p. other p.1) ∙ one.elsewhere (f + 2) i h (λ p. other p.1)));
       elsewhere = λ k i out h. three.elsewhere k i h (λ p. apart f 2 k (omega arith) out p.0)
           ∙ (two.elsewhere k i h (λ p. apart f 1 k (omega arith) out p.0) ∙ (one.elsewhere k i h (λ p. apart f 0 k (omega arith) out p.0) ∙ c.loop-row.invariant.elsewhere k i out h));
+      calls = three.calls ∙ (ap (set_call (cell_value c.dip_cell-dip.result)) (two.calls ∙ (ap (set_call (cell_value c.read-offset.result)) (one.calls ∙ ap (set_call (cell_value c.read-reading.result)) c.loop-row.invariant.calls)))
+          ∙ sets_same (cell_value c.read-reading.result) (cell_value c.read-offset.result) (cell_value c.dip_cell-dip.result) j row (tips_sets j row c.args.self.now.calls) (c.read-reading.ensures ∙ reading) (c.read-offset.ensures ∙ offset) c.dip_cell-dip.ensures
+          ∙ sym (tips_more j row c.args.self.now.calls));
     }
 
 pub returns-clause-filled : goal.returns-clause-filled
@@ -45,3 +50,6 @@ returns-clause-filled c =
       offsets = λ row h. rw three at (c.loop-row.invariant.offsets row h) ∙ all_set row (cell_at j.offsets row) h;
       dips = λ row h. rw three at (c.loop-row.invariant.dips row h) ∙ all_set row (dip_at j.dips row) h;
     }
+
+pub returns-clause-calls : goal.returns-clause-calls
+returns-clause-calls c = let three : c.loop-row.row ≡ 3 = omega (arith, c.loop-row-test.false, c.loop-row.auto.row-end) in c.loop-row.invariant.calls ∙ ap (λ n. tips_sets c.args.junction.now n c.args.self.now.calls) three

@@ -10,7 +10,9 @@ use Rattle.sheet.specs.Checks.{granted, refused}
 use Rattle.sheet.specs.Memory.{cells_in}
 use Rattle.sheet.specs.NewColumns.{new_column}
 use Rattle.station.specs.Boxes.{dam_shape}
-use Rattle.station.specs.Stops.{fault_of}
+use Rattle.account.specs.Tallies.{refused_call}
+use Rattle.station.specs.Counts.{posted_call, call_then, no_others}
+use Rattle.station.specs.Stops.{fault_of, stops_at_bound}
 use Rattle.station.proofs.Calls.{at_bound, sum_answer, came_granted, came_refused, came_for, call_drafted, row_drafted, within_bounds, past_bound, only_bounds}
 use Rattle.station.proofs.Stops.{unfaulted}
 use Rattle.station.proofs.Totals.{sum_ordered, sum_told, past_told}
@@ -67,3 +69,37 @@ returns-in-BeyondLimit-clause-total c =
     let told = came_refused a.sheet.shape call m.cells m.draft c.sum-answer.new.draft result c.in-Err.field-0 calls came in
     let some = past_bound Sum (a.first + 3) (fault_of (in_row 0 (kept v))) c.in-BeyondLimit.fault (sym answer ∙ (told ∙ ap refused c.in-BeyondLimit.is)) in
     rw c.from.ensures (past_told (record {}) (kept v) c.in-BeyondLimit.fault.cell some)
+
+pub returns-in-Ok-clause-calls : goal.returns-in-Ok-clause-calls
+returns-in-Ok-clause-calls c =
+    let a = c.args in
+    let m = a.self.now in
+    let size : length m.cells ≡ 96 = search rules in
+    let draft_size : length m.draft ≡ 3 = search rules in
+    let came = sym c.answered.ensures.answer ∙ c.in-Ok.is in
+    let calls = c.sum-answer.ensures in
+    let result = c.sum-answer.result in
+    let v : Value = sum_cell (cells_in dam_shape m.cells (a.first + 1)) 3 in
+    let call : Call = sum (a.first + 3) 0 (a.first + 1) in
+    let answer : call_answer a.sheet.shape call m.cells m.draft ≡ at_bound Sum (a.first + 3) (fault_of (in_row 0 (kept v))) granted = sum_answer a.sheet.shape (a.first + 3) (a.first + 1) m.cells m.draft c.requires.sheet (omega (arith, c.requires.place)) (omega (arith, c.requires.place)) size draft_size in
+    let told = came_granted a.sheet.shape call m.cells m.draft c.sum-answer.new.draft result c.in-Ok.sheet calls came in
+    let none = within_bounds Sum (a.first + 3) (fault_of (in_row 0 (kept v))) (sym answer ∙ told) in
+    let counted : c.post-sheet.new.self.calls ≡ posted_call m.calls = search rules in
+    counted ∙ sym (ap (λ o. call_then (stops_at_bound o) no_others m.calls) none)
+
+pub returns-in-BeyondLimit-clause-calls : goal.returns-in-BeyondLimit-clause-calls
+returns-in-BeyondLimit-clause-calls c =
+    let a = c.args in
+    let m = a.self.now in
+    let size : length m.cells ≡ 96 = search rules in
+    let draft_size : length m.draft ≡ 3 = search rules in
+    let came = sym c.answered.ensures.answer ∙ c.in-Err.is in
+    let calls = c.sum-answer.ensures in
+    let result = c.sum-answer.result in
+    let v : Value = sum_cell (cells_in dam_shape m.cells (a.first + 1)) 3 in
+    let call : Call = sum (a.first + 3) 0 (a.first + 1) in
+    let answer : call_answer a.sheet.shape call m.cells m.draft ≡ at_bound Sum (a.first + 3) (fault_of (in_row 0 (kept v))) granted = sum_answer a.sheet.shape (a.first + 3) (a.first + 1) m.cells m.draft c.requires.sheet (omega (arith, c.requires.place)) (omega (arith, c.requires.place)) size draft_size in
+    let told = came_refused a.sheet.shape call m.cells m.draft c.sum-answer.new.draft result c.in-Err.field-0 calls came in
+    let some = past_bound Sum (a.first + 3) (fault_of (in_row 0 (kept v))) c.in-BeyondLimit.fault (sym answer ∙ (told ∙ ap refused c.in-BeyondLimit.is)) in
+    let counted : c.answered.new.self ≡ refused_call m.calls = search rules in
+    counted ∙ sym (ap (λ o. call_then (stops_at_bound o) no_others m.calls) some)
