@@ -20,7 +20,8 @@ use Rattle.account.specs.Findings.{Sound, Found}
 use Rattle.account.specs.FoundLaws.{standing_met}
 use Rattle.account.specs.Outcomes.{told, to_tell, within_limit, pair_value}
 use Rattle.account.specs.Standings.{standing_of, dip_value, standing_by}
-use Rattle.station.specs.declared.job.Missing.{Missing}
+use Rattle.station.specs.declared.total.NoTotal.{NoTotal}
+use Rattle.station.specs.declared.total.NoTotal.TheVariants.{TipWithoutPair}
 use Rattle.station.specs.declared.lack.Lack.{Lack}
 use Rattle.station.specs.declared.line.Junction.{Junction}
 use Rattle.station.specs.declared.stop.Stop.{Stop}
@@ -29,6 +30,7 @@ use Rattle.station.specs.Findings.{CanBeWorked, unless_stopped, said, box_total,
 use Rattle.station.specs.Lacks.{lack_of}
 use Rattle.station.specs.Pressures.{calibrated, factors, pressure}
 use Rattle.station.specs.Stops.{first_past, stops_at_bound, stops_at_zero, solve_stop, box_stop, stopped}
+use Rattle.station.specs.Totals.{no_total}
 use Rattle.station.proofs.Soundness.{Laws, pressure_tight}
 use Rattle.station.proofs.Stops.{or_else_none, none_past, none_zero, no_zeros, zero_none}
 
@@ -115,20 +117,20 @@ not_stopped P (Ok t) e p = p
 not_stopped P (Err s) e p = cc
 
 -- one more total in the list: x is pushed behind the m totals of the first boxes
-pub totals_more : (dam : List Junction) (n m : ℕ) (before after : List (Result Interval (NoPair Missing))) (x : Result Interval (NoPair Missing)) → m ≡ n → AllTotals dam n before
-    → ((k : ℕ) (t : Result Interval (NoPair Missing)) → k < m → get_or after k t ≡ get_or before k t) → ((t : Result Interval (NoPair Missing)) → true ≡ true → get_or after m t ≡ x)
-    → ((j : Junction) → told x ≡ to_tell (record {}) (box_total (get_or dam n j))) → AllTotals dam (n + 1) after
+pub totals_more : (dam : List Junction) (n m : ℕ) (before after : List (Result Interval (NoPair NoTotal))) (x : Result Interval (NoPair NoTotal)) → m ≡ n → AllTotals dam n before
+    → ((k : ℕ) (t : Result Interval (NoPair NoTotal)) → k < m → get_or after k t ≡ get_or before k t) → ((t : Result Interval (NoPair NoTotal)) → true ≡ true → get_or after m t ≡ x)
+    → ((j : Junction) → told x ≡ to_tell TipWithoutPair (box_total n (get_or dam n j))) → AllTotals dam (n + 1) after
 totals_more dam n m before after x e sofar same last new k j t h =
-    let P : ℕ → Type 0 = λ k. (j : Junction) (t : Result Interval (NoPair Missing)) → told (get_or after k t) ≡ to_tell (record {}) (box_total (get_or dam k j)) in
+    let P : ℕ → Type 0 = λ k. (j : Junction) (t : Result Interval (NoPair NoTotal)) → told (get_or after k t) ≡ to_tell TipWithoutPair (box_total k (get_or dam k j)) in
     let below : (k : ℕ) → k < n → P k = λ k b j t. let u : k < m = omega arith in rw (same k t u) (sofar k j t b) in
     let here : P n = λ j t. let f : get_or after n t ≡ x = ap (λ (i : ℕ). get_or after i t) (sym e) ∙ last t refl in rw f (new j) in
     below_more P n below here k h j t
 
 -- the total of a box, by what its job answers
-pub total_in_box : (here : Junction) (came : Result (Result Interval (NoPair Missing)) Stop) (x : Result Interval (NoPair Missing)) → result_err came ≡ box_stop here
-    → IfOk came (λ t. told t ≡ to_tell (record {}) (within_limit (kept (sum_cell (pressure here) 3)))) → MatchResult came (λ t. x ≡ t) (λ s. x ≡ Err (Lacking (record {})))
-    → told x ≡ to_tell (record {}) (box_total here)
-total_in_box here (Ok t) x stop total same =
-    ap told same ∙ total ∙ ap (λ q. to_tell (record {}) (unless_stopped q (λ s. Lacking (record {})) (within_limit (kept (sum_cell (pressure here) 3))))) stop
-total_in_box here (Err s) x stop total same =
-    ap told same ∙ ap (λ q. to_tell (record {}) (unless_stopped q (λ s. Lacking (record {})) (within_limit (kept (sum_cell (pressure here) 3))))) stop
+pub total_in_box : (nth : ℕ) (here : Junction) (came : Result (Result Interval (NoPair NoTotal)) Stop) (x : Result Interval (NoPair NoTotal)) → result_err came ≡ box_stop here
+    → IfOk came (λ t. told t ≡ to_tell TipWithoutPair (within_limit (kept (sum_cell (pressure here) 3)))) → MatchResult came (λ t. x ≡ t) (λ s. x ≡ Err (Lacking (no_total nth s)))
+    → told x ≡ to_tell TipWithoutPair (box_total nth here)
+total_in_box nth here (Ok t) x stop total same =
+    ap told same ∙ total ∙ ap (λ q. to_tell TipWithoutPair (unless_stopped q (λ s. Lacking (no_total nth s)) (within_limit (kept (sum_cell (pressure here) 3))))) stop
+total_in_box nth here (Err s) x stop total same =
+    ap told same ∙ ap (λ q. to_tell TipWithoutPair (unless_stopped q (λ s. Lacking (no_total nth s)) (within_limit (kept (sum_cell (pressure here) 3))))) stop

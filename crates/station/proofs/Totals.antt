@@ -14,7 +14,7 @@ use Rattle.cells.specs.Laws as cells
 use Rattle.account.specs.declared.outcome.NoPair.TheVariants.{Lacking, PastLimit}
 use Rattle.account.specs.Outcomes.{told, to_tell, within_limit}
 use Rattle.sheet.specs.Memory.{cells_in}
-use Rattle.station.specs.declared.job.Missing.{Missing}
+use Rattle.station.specs.declared.total.NoTotal.{NoTotal}
 use Rattle.station.specs.Boxes.{dam_shape}
 use Rattle.station.specs.Stops.{fault_of}
 use Rattle.station.proofs.Sheets.{column_cell, reads}
@@ -38,13 +38,13 @@ sum_ordered cells k =
     plus_ordered (plus (plus zeros (v 0)) (v 1)) (v 2) two (x 2)
 
 -- what is told of a cell that was posted, and of a bound past the limit
-pub sum_told : (laws : cells.Laws) (cell : Option Interval) (m : Missing) (v : Value) → IsCell v → cell_value cell ≡ v → told (ok_or cell (Lacking m)) ≡ to_tell m (within_limit (kept v))
+pub sum_told : (laws : cells.Laws) (cell : Option Interval) (m : NoTotal) (v : Value) → IsCell v → cell_value cell ≡ v → told (ok_or cell (Lacking m)) ≡ to_tell m (within_limit (kept v))
 sum_told laws cell m v c e = by cell e ∙ rw (laws.kept_cell v c, reads v c) refl
   where
     by : (cell : Option Interval) → cell_value cell ≡ v → told (ok_or cell (Lacking m)) ≡ to_tell m (Ok v)
     by None e = ap (λ w. to_tell m (Ok w)) e
     by (Some i) e = ap (λ w. to_tell m (Ok w)) e
 
-pub past_told : (m : Missing) (q : Result Record RoundingFault) (f : CellFault) → fault_of (in_row 0 q) ≡ Some f → Err (PastLimit f.rounding.bound) ≡ to_tell m (within_limit q)
+pub past_told : (m : NoTotal) (q : Result Record RoundingFault) (f : CellFault) → fault_of (in_row 0 q) ≡ Some f → Err (PastLimit f.rounding.bound) ≡ to_tell m (within_limit q)
 past_told m (Ok r) f e = cc
 past_told m (Err g) f e = cc

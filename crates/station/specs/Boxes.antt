@@ -1,5 +1,5 @@
 -- The sheet of the dam: its shape, and what the columns of a box are set to.
-use Rattle.std.specs.Prelude.{◌≡◌, ℕ, ◌+◌, ◌<◌, List, ℤ, pos, None, Option, codes, slice_index_or}
+use Rattle.std.specs.Prelude.{◌≡◌, ℕ, ◌+◌, ◌<◌, List, ℤ, pos, None, Option, slice_index_or}
 use Rattle.arithmetic.specs.Values.{Value}
 use Rattle.cells.specs.declared.cell.Record.{Record}
 use Rattle.cells.specs.Cells.{cell_at}
@@ -21,7 +21,3 @@ pub record Filled (cells : List Record) (first : ℕ) (j : Junction) : Type 0 wh
   pub readings : (row : ℕ) → row < 3 → cells_in dam_shape cells first row ≡ cell_at j.readings row
   pub offsets : (row : ℕ) → row < 3 → cells_in dam_shape cells (first + 1) row ≡ cell_at j.offsets row
   pub dips : (row : ℕ) → row < 3 → cells_in dam_shape cells (first + 2) row ≡ dip_at j.dips row
-
--- what a box without a total lacks
-abbrev pub missing_words : List ℕ
-missing_words = codes "no total: a tip of the box has no pair"

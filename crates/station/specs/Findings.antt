@@ -12,13 +12,15 @@ use Rattle.account.specs.Findings.{Said, AllFound as AllSaid}
 use Rattle.account.specs.declared.outcome.NoPair.{NoPair}
 use Rattle.account.specs.declared.outcome.NoPair.TheVariants.{Lacking}
 use Rattle.account.specs.Outcomes.{told, to_tell, within_limit}
-use Rattle.station.specs.declared.job.Missing.{Missing}
 use Rattle.station.specs.declared.lack.Lack.{Lack}
 use Rattle.station.specs.declared.line.Junction.{Junction}
 use Rattle.station.specs.declared.stop.Stop.{Stop}
+use Rattle.station.specs.declared.total.NoTotal.{NoTotal}
+use Rattle.station.specs.declared.total.NoTotal.TheVariants.{TipWithoutPair}
 use Rattle.station.specs.Lacks.{lack_of}
 use Rattle.station.specs.Pressures.{calibrated, factors, pressure, Shown, Pressures}
 use Rattle.station.specs.Stops.{box_stop, stopped}
+use Rattle.station.specs.Totals.{no_total}
 
 -- no bound of a cell of the box is past the limit, and no factor on the diagonal holds 0
 abbrev pub CanBeWorked : Junction → Type 0
@@ -44,13 +46,13 @@ said nth j place = record {
 abbrev pub AllFound : List Junction → ℕ → List (Finding Lack) → Type 0
 AllFound dam n fs = AllSaid (λ k j. said (k / 3) (slice_index_or dam (k / 3) j) (k % 3)) n fs
 
--- the sum of a box's pressures; a box that is stopped has none
-abbrev pub box_total : Junction → Result Value (NoPair Missing)
-box_total j = unless_stopped (box_stop j) (λ s. Lacking (record {})) (within_limit (kept (sum_cell (pressure j) 3)))
+-- the sum of the pressures of a box, the nth of the dam; where it is stopped it has none
+abbrev pub box_total : (nth : ℕ) → Junction → Result Value (NoPair NoTotal)
+box_total nth j = unless_stopped (box_stop j) (λ s. Lacking (no_total nth s)) (within_limit (kept (sum_cell (pressure j) 3)))
 
 -- the first n totals are those of the first n boxes, in their order
-abbrev pub AllTotals : List Junction → ℕ → List (Result Interval (NoPair Missing)) → Type 0
-AllTotals dam n ts = (k : ℕ) (j : Junction) (t : Result Interval (NoPair Missing)) → k < n → told (slice_index_or ts k t) ≡ to_tell (record {}) (box_total (slice_index_or dam k j))
+abbrev pub AllTotals : List Junction → ℕ → List (Result Interval (NoPair NoTotal)) → Type 0
+AllTotals dam n ts = (k : ℕ) (j : Junction) (t : Result Interval (NoPair NoTotal)) → k < n → told (slice_index_or ts k t) ≡ to_tell TipWithoutPair (box_total k (slice_index_or dam k j))
 
 -- what each tip shows is tight as well: its cell holds all that the records of its box allow, with less than one step to spare
 abbrev pub ShownTightly : List Junction → Type 0

@@ -4,3 +4,4 @@ pub mod Findings
 pub mod Lacks
 pub mod Pressures
 pub mod Stops
+pub mod Totals

@@ -2,7 +2,7 @@
 // then box after box is worked out: the calibration, the neighbours taken out, the dips compared, and the total. Each of these is a call
 // that is posted. Where a call is refused nothing of it is posted, what rests on it is left out, and the sheet goes on with the columns of
 // the next box. What the account says is read from the posted columns.
-ghost use Rattle.std.specs.Prelude.{◌≡◌, ◌≢◌, ◌⊎◌, ℕ, ◌<◌, ◌≤◌, ◌+◌, ◌*◌, Some, IfOk, IfErr, slice_index_or};
+ghost use Rattle.std.specs.Prelude.{◌≡◌, ◌≢◌, ◌⊎◌, ℕ, ◌<◌, ◌≤◌, ◌+◌, ◌*◌, IfOk, IfErr, slice_index_or};
 ghost use Rattle.std.specs.Result.{result_err};
 ghost use Rattle.arithmetic.specs.Values.{empty};
 ghost use Rattle.cells.specs.Cells.{cell_value, cell_at};
@@ -14,14 +14,16 @@ ghost use Rattle.account.specs.declared.outcome.NoPair.TheVariants.{PastLimit};
 ghost use Rattle.account.specs.Outcomes.{told, to_tell, within_limit};
 ghost use Rattle.account.specs.Tallies.{granted_call, one_posted, no_calls};
 ghost use Rattle.sheet.specs.Memory.{cells_in};
-ghost use Rattle.station.specs.Boxes.{dam_shape, Filled, dip_at, missing_words};
+ghost use Rattle.station.specs.Boxes.{dam_shape, Filled, dip_at};
 ghost use Rattle.station.specs.Counts.{set_call, box_sets, posted_call, call_then, no_others, sum_stop, box_calls, first_calls, of_boxes};
 ghost use Rattle.station.specs.Pressures.{calibrated, pressure};
 ghost use Rattle.station.specs.Stops.{first_past, stops_at_bound, solve_stop, box_stop, stop_in, SheetGoesOn};
 ghost use Rattle.station.specs.declared.line.Junction.{Junction};
+ghost use Rattle.station.specs.declared.total.NoTotal.TheVariants.{TipWithoutPair};
 
 use crate::line::{BOXES, Junction, STRIDE, TIPS_OF_A_BOX};
 use crate::stop::{Stop, Stopped};
+use crate::total::NoTotal;
 use account::outcome::{NoPair, Outcome};
 use account::standing::dip_cell;
 use account::tally::Tally;
@@ -34,7 +36,6 @@ use layouts::packed::Packed;
 use layouts::side::Side;
 use sheet::refusal::Refusal;
 use sheet::states::{Drafted, Filling, Refused, Working};
-use std::fmt;
 
 // The columns of a box, counted from its first. First the readings.
 const READINGS: usize = 0;
@@ -59,18 +60,6 @@ const ONE: Record = Record {
     lower: UNIT,
     upper: UNIT,
 };
-
-// A box has no total where a tip has no pair.
-#[derive(Clone, Copy)]
-pub struct Missing;
-
-impl fmt::Display for Missing {
-    ghost output = { λ _. Some missing_words };
-
-    fn fmt<W: fmt::Write>(&self, f: &mut fmt::Formatter<W>) -> fmt::Result {
-        f.pad("no total: a tip of the box has no pair")
-    }
-}
 
 // The memory of the sheet, and the calls that it was asked for. Of the calls of the job three can be refused: a product and a sum for a
 // bound past the limit, and a solve for that or for a factor that holds 0. No other is: this is proved at each `unreachable!`.
@@ -351,11 +340,11 @@ impl Memory {
     }
 
     // The total of a box. Where a bound of it is past the limit, nothing of it is posted, and the sheet goes on without it.
-    fn total(&mut self, sheet: Working, first: usize) -> (Working, Outcome<Missing>)
+    fn total(&mut self, sheet: Working, first: usize) -> (Working, Outcome<NoTotal>)
         requires sheet { sheet.shape ≡ dam_shape }
         requires place { first + COLUMNS_OF_A_BOX ≤ COLUMNS }
         ensures sheet { result.0.shape ≡ dam_shape }
-        ensures total { told result.1 ≡ to_tell (record {}) (within_limit (kept (sum_cell (cells_in dam_shape self.old.cells (first + PRESSURES)) TIPS_OF_A_BOX))) }
+        ensures total { told result.1 ≡ to_tell TipWithoutPair (within_limit (kept (sum_cell (cells_in dam_shape self.old.cells (first + PRESSURES)) TIPS_OF_A_BOX))) }
         ensures unposted { (bound : Bound) → result.1 ≡ Err (PastLimit bound) → self.new.cells ≡ self.old.cells }
         ensures elsewhere { (j row : ℕ) → j ≢ first + TOTAL → row < TIPS_OF_A_BOX → cells_in dam_shape self.new.cells j row ≡ cells_in dam_shape self.old.cells j row }
         ensures calls { self.new.calls ≡ call_then (sum_stop (cells_in dam_shape self.old.cells (first + PRESSURES))) no_others self.old.calls }
@@ -368,7 +357,7 @@ impl Memory {
             Ok(sheet) => {
                 let sheet = self.post(sheet);
                 let total = self.cell(first + TOTAL, 0);
-                (sheet, total.ok_or(NoPair::Lacking(Missing)))
+                (sheet, total.ok_or(NoPair::Lacking(NoTotal::TipWithoutPair)))
             }
             Err(Refused { refusal, sheet }) => {
                 let Refusal::BeyondLimit(fault) = refusal else {
@@ -394,7 +383,7 @@ impl Memory {
         sheet: Working,
         nth: usize,
         junction: &Junction,
-    ) -> (Working, Result<Outcome<Missing>, Stop>)
+    ) -> (Working, Result<Outcome<NoTotal>, Stop>)
         requires sheet { sheet.shape ≡ dam_shape }
         requires place { nth < BOXES }
         requires filled { Filled self.old.cells (nth * COLUMNS_OF_A_BOX) junction.now }
@@ -402,7 +391,7 @@ impl Memory {
         ensures came { result_err result.1 ≡ box_stop junction.now }
         ensures pressures { IfOk result.1 (λ t. (row : ℕ) → row < TIPS_OF_A_BOX → cells_in dam_shape self.new.cells (nth * COLUMNS_OF_A_BOX + PRESSURES) row ≡ pressure junction.now row) }
         ensures agreed { IfOk result.1 (λ t. (row : ℕ) → row < TIPS_OF_A_BOX → cells_in dam_shape self.new.cells (nth * COLUMNS_OF_A_BOX + DIPS) row ≡ met (dip_at junction.now.dips row) (pressure junction.now row)) }
-        ensures total { IfOk result.1 (λ t. told t ≡ to_tell (record {}) (within_limit (kept (sum_cell (pressure junction.now) TIPS_OF_A_BOX)))) }
+        ensures total { IfOk result.1 (λ t. told t ≡ to_tell TipWithoutPair (within_limit (kept (sum_cell (pressure junction.now) TIPS_OF_A_BOX)))) }
         ensures elsewhere { (j row : ℕ) → (j < nth * COLUMNS_OF_A_BOX) ⊎ (nth * COLUMNS_OF_A_BOX + COLUMNS_OF_A_BOX ≤ j) → row < TIPS_OF_A_BOX → cells_in dam_shape self.new.cells j row ≡ cells_in dam_shape self.old.cells j row }
         ensures calls { self.new.calls ≡ box_calls junction.now self.old.calls }
     {

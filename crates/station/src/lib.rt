@@ -7,4 +7,5 @@ pub mod lack;
 pub mod line;
 pub mod logger;
 pub mod stop;
+pub mod total;
 pub mod working;

@@ -1,5 +1,6 @@
 // Working out the dam: what became of each tip, where its dip stands, and the total of each box.
 ghost use Rattle.std.specs.Prelude.{◌≡◌, ◌<◌, IfOk, MatchResult, vec_len, Ok, Err};
+ghost use Rattle.std.specs.Result.{result_err};
 ghost use Rattle.cells.specs.Cells.{cell_value};
 ghost use Rattle.account.specs.declared.outcome.NoPair.TheVariants.{Lacking};
 ghost use Rattle.account.specs.Outcomes.{told, to_tell};
@@ -7,11 +8,13 @@ ghost use Rattle.station.specs.Counts.{all_calls};
 ghost use Rattle.station.specs.Findings.{box_total, said, unless_stopped, AllFound, AllTotals, ShownTightly};
 ghost use Rattle.station.specs.Lacks.{lack_of};
 ghost use Rattle.station.specs.Stops.{stopped, stop_row};
+ghost use Rattle.station.specs.Totals.{no_total};
 
-use crate::job::{Memory, Missing};
+use crate::job::Memory;
 use crate::lack::{Lack, why};
 use crate::line::{BOXES, Junction, TIPS_OF_A_BOX};
 use crate::stop::{Stop, number_of};
+use crate::total::NoTotal;
 use account::finding::Finding;
 use account::outcome::{NoPair, Outcome};
 use account::records::record_at;
@@ -37,17 +40,21 @@ fn became(
 }
 
 // The total of a box; there is none where the box is stopped.
-fn total_of(came: Result<Outcome<Missing>, Stop>) -> Outcome<Missing>
-    ensures { MatchResult came (λ total. result ≡ total) (λ stop. result ≡ Err (Lacking (record {}))) }
+fn total_of(came: Result<Outcome<NoTotal>, Stop>, nth: usize) -> Outcome<NoTotal>
+    requires number { (nth < BOXES) × (stop_row (result_err came) < TIPS_OF_A_BOX) }
+    ensures { MatchResult came (λ total. result ≡ total) (λ stop. result ≡ Err (Lacking (no_total nth stop))) }
 {
-    came.unwrap_or(Err(NoPair::Lacking(Missing)))
+    match came {
+        Ok(total) => total,
+        Err(stop) => Err(NoPair::Lacking(NoTotal::of(stop, nth))),
+    }
 }
 
 // What is found of the dam: of each tip, and the total of each box, both in the order of the dam; and the calls of its sheet.
 #[derive(Drop)]
 pub struct Found {
     pub tips: Vec<Finding<Lack>>,
-    pub totals: Vec<Outcome<Missing>>,
+    pub totals: Vec<Outcome<NoTotal>>,
     pub calls: Tally,
 }
 
@@ -66,7 +73,7 @@ pub fn findings(heap: Global, dam: &[Junction; BOXES]) -> Result<Found, AllocErr
     for (nth, junction) in dam.iter().enumerate() {
         let (next, came) = memory.run(sheet, nth, junction);
         sheet = next;
-        totals.push(total_of(came))?;
+        totals.push(total_of(came, nth))?;
         let stop = came.err();
         // a place is one in every run of the box; over the dips in place of a range, the loop's proof did not close
         for place in 0..TIPS_OF_A_BOX {

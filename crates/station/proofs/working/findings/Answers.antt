@@ -8,7 +8,8 @@ use Rattle.account.specs.declared.outcome.NoPair.{NoPair}
 use Rattle.account.specs.FoundLaws.{found_more}
 use Rattle.account.specs.Outcomes.{told, to_tell}
 use Rattle.sheet.specs.Memory.{cells_in}
-use Rattle.station.specs.declared.job.Missing.{Missing}
+use Rattle.station.specs.declared.total.NoTotal.{NoTotal}
+use Rattle.station.specs.declared.total.NoTotal.TheVariants.{TipWithoutPair}
 use Rattle.station.specs.declared.line.Junction.{Junction}
 use Rattle.station.specs.declared.stop.Stop.{Stop}
 use Rattle.station.specs.Boxes.{dam_shape, dip_at}
@@ -30,6 +31,12 @@ past = record { readings = []; offsets = []; calibration = []; factors = []; dip
 
 pub run-came-requires-clause-filled : goal.run-came-requires-clause-filled
 run-came-requires-clause-filled c = c.loop-nth.invariant.filled c.loop-nth.nth past (omega arith) (omega (arith, c.loop-nth-test.true))
+
+pub total_of-requires : goal.total_of-requires
+total_of-requires c =
+    let here : Junction = get_or c.args.dam.now c.loop-nth.nth past in
+    let P : Option Stop → Type 0 = λ q. stop_row q < 3 in
+    record { number = (c.loop-nth-test.true, subst P (sym c.run-came.ensures.came) (row_of_box here)) }
 
 pub became-outcome-requires : goal.became-outcome-requires
 became-outcome-requires c =
@@ -81,8 +88,8 @@ loop-nth-preserved c =
     let P : ℕ → Type 0 = λ n. AllFound dam n (vec_items c.loop-place.tips) in
     let pushed = c.in_ok-push.ensures in
     let came = c.run-came.result.1 in
-    let x : Result Interval (NoPair Missing) = c.total_of.result in
-    let total : told x ≡ to_tell (record {}) (box_total here) = total_in_box here came x c.run-came.ensures.came c.run-came.ensures.total c.total_of.ensures in
+    let x : Result Interval (NoPair NoTotal) = c.total_of.result in
+    let total : told x ≡ to_tell TipWithoutPair (box_total nth here) = total_in_box nth here came x c.run-came.ensures.came c.run-came.ensures.total c.total_of.ensures in
     let same : (t : Junction) → get_or dam nth t ≡ here = λ t. get_or_default dam nth t past (omega (arith, boxes, c.loop-nth-test.true)) in
     let R : ℕ → Type 0 = λ k. (j : Junction) (place : ℕ) → Tightly (pos 100) (Shown (get_or dam k j) place) (calibrated (get_or dam k j) place) in
     let here_shown : R nth = λ t place. c.loop-place.invariant.shown (omega (arith, c.loop-place-test.false)) t place in
@@ -92,7 +99,7 @@ loop-nth-preserved c =
       tips = subst P all c.loop-place.invariant.tips;
       totals_len = omega (arith, pushed.len, c.loop-nth.invariant.totals_len);
       totals = totals_more dam nth (vec_len c.loop-nth.totals) (vec_items c.loop-nth.totals) (vec_items c.push.new.self) x c.loop-nth.invariant.totals_len c.loop-nth.invariant.totals pushed.by_index.0 pushed.by_index.1
-          (λ t. total ∙ ap (λ j. to_tell (record {}) (box_total j)) (sym (same t)));
+          (λ t. total ∙ ap (λ j. to_tell TipWithoutPair (box_total nth j)) (sym (same t)));
       calls = c.run-came.ensures.calls ∙ (ap (box_calls here) c.loop-nth.invariant.calls ∙ sym (boxes_more box_calls dam nth here (first_calls dam no_calls) same));
       sheet = c.run-came.ensures.sheet;
       filled = λ k j le lt. filled_stays c.loop-nth.memory.cells c.run-came.new.self.cells (k * 4) (get_or dam k j) (λ i row a b r. c.run-came.ensures.elsewhere i row (inr (omega (arith, le, a))) r)

@@ -12,6 +12,7 @@ use Rattle.sheet.specs.NewColumns.{new_column}
 use Rattle.station.specs.Boxes.{dam_shape}
 use Rattle.account.specs.Tallies.{refused_call}
 use Rattle.station.specs.Counts.{posted_call, call_then, no_others}
+use Rattle.station.specs.declared.total.NoTotal.TheVariants.{TipWithoutPair}
 use Rattle.station.specs.Stops.{fault_of, stops_at_bound}
 use Rattle.station.proofs.Calls.{at_bound, sum_answer, came_granted, came_refused, came_for, call_drafted, row_drafted, within_bounds, past_bound, only_bounds}
 use Rattle.station.proofs.Stops.{unfaulted}
@@ -52,7 +53,7 @@ returns-in-Ok-clause-total c =
     let k : c.in-Ok.sheet.column ≡ a.first + 3 = came_for a.sheet.shape call m.cells m.draft c.sum-answer.new.draft result c.in-Ok.sheet calls came in
     let t : cell_value c.cell-total.result ≡ v = c.cell-total.ensures ∙ (rw k at (c.post-sheet.ensures.there 0 (omega arith))
     ∙ row_drafted (new_column dam_shape call (cells_in dam_shape m.cells)) (λ (row : ℕ). v) c.sum-answer.new.draft 0 drafted (omega arith) refl fits) in
-    rw c.ok_or.ensures.value (sum_told c.laws_stand.ensures c.cell-total.result (record {}) v fits t)
+    rw c.ok_or.ensures.value (sum_told c.laws_stand.ensures c.cell-total.result TipWithoutPair v fits t)
 
 pub returns-in-BeyondLimit-clause-total : goal.returns-in-BeyondLimit-clause-total
 returns-in-BeyondLimit-clause-total c =
@@ -68,7 +69,7 @@ returns-in-BeyondLimit-clause-total c =
     let answer : call_answer a.sheet.shape call m.cells m.draft ≡ at_bound Sum (a.first + 3) (fault_of (in_row 0 (kept v))) granted = sum_answer a.sheet.shape (a.first + 3) (a.first + 1) m.cells m.draft c.requires.sheet (omega (arith, c.requires.place)) (omega (arith, c.requires.place)) size draft_size in
     let told = came_refused a.sheet.shape call m.cells m.draft c.sum-answer.new.draft result c.in-Err.field-0 calls came in
     let some = past_bound Sum (a.first + 3) (fault_of (in_row 0 (kept v))) c.in-BeyondLimit.fault (sym answer ∙ (told ∙ ap refused c.in-BeyondLimit.is)) in
-    rw c.from.ensures (past_told (record {}) (kept v) c.in-BeyondLimit.fault.cell some)
+    rw c.from.ensures (past_told TipWithoutPair (kept v) c.in-BeyondLimit.fault.cell some)
 
 pub returns-in-Ok-clause-calls : goal.returns-in-Ok-clause-calls
 returns-in-Ok-clause-calls c =
