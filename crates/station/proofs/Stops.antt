@@ -1,5 +1,6 @@
 -- What it tells that a box is stopped, or that it is not. Assumes the laws of cells, where they are named.
 use Rattle.std.proofs.Common.{◌≡◌, ℕ, zero, suc, ◌<◌, Bool, true, false, [], ◌∷◌, Some, None, Ok, Err, Option, Result, sym, refl, ap, ◌∙◌, arith}
+use Rattle.std.specs.Prelude.{IfErr}
 use Rattle.arithmetic.specs.Values.{Value, Ordered}
 use Rattle.rounding.specs.declared.fault.RoundingFault.{RoundingFault}
 use Rattle.cells.specs.declared.cell.Record.{Record}
@@ -14,7 +15,7 @@ use Rattle.layouts.specs.Orders.{rows_in_order, first_zero}
 use Rattle.station.specs.declared.line.Junction.{Junction}
 use Rattle.station.specs.declared.stop.Stop.{Stop}
 use Rattle.station.specs.Pressures.{calibrated, factors, pressure}
-use Rattle.station.specs.Stops.{fault_of, or_else, first_past, stops_at_bound, stops_at_zero, solve_stop, box_stop, stop_row}
+use Rattle.station.specs.Stops.{fault_of, or_else, first_past, stops_at_bound, stops_at_zero, solve_stop, box_stop, left_by, stop_row}
 use Rattle.station.proofs.Calls.{rising}
 
 -- ---- nothing is told where each of the parts tells nothing, and nowhere else
@@ -118,3 +119,21 @@ bound_none (Some f) e = cc
 pub zero_none : (o : Option ℕ) → stops_at_zero o ≡ None → o ≡ None
 zero_none None e = refl
 zero_none (Some row) e = cc
+
+-- ---- what is left in the column of a stopped box
+
+pub left_offset : (o : Option CellFault) (s : Stop) (offset shown : Value) → Some s ≡ stops_at_bound o → left_by o offset shown ≡ offset
+left_offset None s offset shown e = cc
+left_offset (Some f) s offset shown e = refl
+
+pub left_shown : (o : Option CellFault) (offset shown : Value) → None ≡ stops_at_bound o → left_by o offset shown ≡ shown
+left_shown None offset shown e = refl
+left_shown (Some f) offset shown e = cc
+
+pub where_err : {T E : Type 0} (P Q : Type 0) (r : Result T E) → (P → Q) → IfErr r (λ e. P) → IfErr r (λ e. Q)
+where_err P Q (Ok t) f p = p
+where_err P Q (Err e) f p = f p
+
+pub on_err : {T E : Type 0} (P : Type 0) (r : Result T E) → P → IfErr r (λ e. P)
+on_err P (Ok t) p = tt
+on_err P (Err e) p = p

@@ -3,6 +3,7 @@ use Rattle.std.specs.Prelude.{◌≡◌, ℕ, ◌+◌, ◌*◌, ◌==◌, cond, 
 use Rattle.arithmetic.specs.Values.{Value}
 use Rattle.cells.specs.declared.cell.Record.{Record}
 use Rattle.cells.specs.declared.fault.CellFault.{CellFault}
+use Rattle.cells.specs.Cells.{cell_at}
 use Rattle.cells.specs.Faults.{kept, in_row}
 use Rattle.layouts.specs.declared.side.Side.TheVariants.{Lower}
 use Rattle.layouts.specs.Orders.{rows_in_order, first_zero}
@@ -47,6 +48,14 @@ solve_stop j = or_else (stops_at_zero (first_zero (factors j) (rows_in_order Low
 -- what stops a box, if anything does
 abbrev pub box_stop : Junction → Option Stop
 box_stop j = or_else (stops_at_bound (first_past (calibrated j))) (solve_stop j)
+
+-- what stands in the column of pressures of a stopped box: the offsets where the calibration is refused, and else what the tips show
+abbrev pub left_by : Option CellFault → (offset shown : Value) → Value
+left_by (Some f) offset shown = offset
+left_by None offset shown = shown
+
+abbrev pub left_standing : Junction → (row : ℕ) → Value
+left_standing j row = left_by (first_past (calibrated j)) (cell_at j.offsets row) (calibrated j row)
 
 -- the row where a box is stopped
 abbrev pub row_of : Stop → ℕ

@@ -17,7 +17,7 @@ ghost use Rattle.sheet.specs.Memory.{cells_in};
 ghost use Rattle.station.specs.Boxes.{dam_shape, Filled, dip_at};
 ghost use Rattle.station.specs.Counts.{set_call, box_sets, posted_call, call_then, no_others, sum_stop, box_calls, first_calls, of_boxes};
 ghost use Rattle.station.specs.Pressures.{calibrated, pressure};
-ghost use Rattle.station.specs.Stops.{first_past, stops_at_bound, solve_stop, box_stop, stop_in, SheetGoesOn};
+ghost use Rattle.station.specs.Stops.{first_past, stops_at_bound, solve_stop, box_stop, left_standing, stop_in, SheetGoesOn};
 ghost use Rattle.station.specs.declared.line.Junction.{Junction};
 ghost use Rattle.station.specs.declared.total.NoTotal.TheVariants.{TipWithoutPair};
 
@@ -309,6 +309,7 @@ impl Memory {
         ensures sheet { SheetGoesOn result }
         ensures came { stop_in result ≡ box_stop junction.now }
         ensures there { IfOk result (λ w. (row : ℕ) → row < TIPS_OF_A_BOX → cells_in dam_shape self.new.cells (first + PRESSURES) row ≡ pressure junction.now row) }
+        ensures left { IfErr result (λ e. (row : ℕ) → row < TIPS_OF_A_BOX → cells_in dam_shape self.new.cells (first + PRESSURES) row ≡ left_standing junction.now row) }
         ensures elsewhere { (j row : ℕ) → j ≢ first + PRESSURES → row < TIPS_OF_A_BOX → cells_in dam_shape self.new.cells j row ≡ cells_in dam_shape self.old.cells j row }
         ensures calls { self.new.calls ≡ call_then (stops_at_bound (first_past (calibrated junction.now))) (call_then (solve_stop junction.now) no_others) self.old.calls }
     {
@@ -392,6 +393,7 @@ impl Memory {
         ensures pressures { IfOk result.1 (λ t. (row : ℕ) → row < TIPS_OF_A_BOX → cells_in dam_shape self.new.cells (nth * COLUMNS_OF_A_BOX + PRESSURES) row ≡ pressure junction.now row) }
         ensures agreed { IfOk result.1 (λ t. (row : ℕ) → row < TIPS_OF_A_BOX → cells_in dam_shape self.new.cells (nth * COLUMNS_OF_A_BOX + DIPS) row ≡ met (dip_at junction.now.dips row) (pressure junction.now row)) }
         ensures total { IfOk result.1 (λ t. told t ≡ to_tell TipWithoutPair (within_limit (kept (sum_cell (pressure junction.now) TIPS_OF_A_BOX)))) }
+        ensures left { IfErr result.1 (λ s. (row : ℕ) → row < TIPS_OF_A_BOX → (cells_in dam_shape self.new.cells (nth * COLUMNS_OF_A_BOX + PRESSURES) row ≡ left_standing junction.now row) × (cells_in dam_shape self.new.cells (nth * COLUMNS_OF_A_BOX + DIPS) row ≡ dip_at junction.now.dips row)) }
         ensures elsewhere { (j row : ℕ) → (j < nth * COLUMNS_OF_A_BOX) ⊎ (nth * COLUMNS_OF_A_BOX + COLUMNS_OF_A_BOX ≤ j) → row < TIPS_OF_A_BOX → cells_in dam_shape self.new.cells j row ≡ cells_in dam_shape self.old.cells j row }
         ensures calls { self.new.calls ≡ box_calls junction.now self.old.calls }
     {

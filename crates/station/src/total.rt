@@ -35,7 +35,10 @@ impl fmt::Display for NoTotal {
         match self {
             NoTotal::TipWithoutPair => f.write_str("no total: a tip of the box has no pair"),
             NoTotal::NotSolved(tip) => {
-                write!(f, "not solved: the factor of tip {tip} has drifted over zero")
+                write!(
+                    f,
+                    "not solved: the factor of tip {tip} has drifted over zero"
+                )
             }
             NoTotal::NotWorkedOut(tip) => {
                 write!(f, "not worked out: a bound at tip {tip} is past the limit")
