@@ -6,24 +6,27 @@ use Rattle.arithmetic.specs.Values.{Value, Tightly}
 use Rattle.cells.specs.declared.cell.Record.{Record}
 use Rattle.account.specs.declared.finding.Finding.{Finding}
 use Rattle.account.specs.declared.outcome.NoPair.{NoPair}
+use Rattle.account.specs.declared.outcome.NoPair.TheVariants.{Lacking, PastLimit}
 use Rattle.account.specs.Outcomes.{told, to_tell}
 use Rattle.account.specs.Standings.{standing_of}
 
 -- what the records say of a tip: its reading, the cell of its pressure or why none was worked out, the pressures that it can have, when
--- one is worked out, its dip, and what it lacks if its cell is empty
+-- one is worked out and when a cell can hold what is, its dip, and what it lacks if its cell is empty
 pub record Said (L : Type 0) : Type 1 where
   pub reading : Record
   pub pressure : Result Value (NoPair L)
   pub pressures : Set
   pub can_be_worked : Type 0
+  pub can_be_held : Type 0
   pub dip : Option ℤ
   pub lack : L
 
 -- a cell holds every such pressure, and each bound is less than one step from one of them; an empty one tells that there is no such
--- pressure; and none is worked out only where that cannot be
+-- pressure; none is worked out only where that cannot be, and told as past the limit only where no cell can hold it
 abbrev pub Sound : {L : Type 0} → Said L → Result Value (NoPair L) → Type 0
 Sound s (Ok v) = Tightly (pos 100) s.pressures v
-Sound s (Err n) = s.can_be_worked → ⊥
+Sound s (Err (Lacking l)) = s.can_be_worked → ⊥
+Sound s (Err (PastLimit b)) = s.can_be_held → ⊥
 
 pub record Found {L : Type 0} (s : Said L) (row : ℕ) (f : Finding L) : Type 0 where
   pub number : f.number ≡ row + 1

@@ -1,7 +1,9 @@
 -- The finding of the tip at a place of a box, and the total of a box, are what the records of the box say. Assumes the laws of cells, of
 -- layouts and of the sheet's calls.
 use Rattle.std.proofs.Common.{◌≡◌, ℕ, ◌+◌, ◌*◌, ◌/◌, ◌%◌, ◌<◌, true, false, List, length, get_or, ℤ, Some, None, Ok, Err, Option, Result, sym, refl, ap, subst, ◌∙◌, arith, below_more}
-use Rattle.std.specs.Prelude.{IfOk, MatchResult}
+use Rattle.std.proofs.lemmas.Bool.{cond_both}
+use Rattle.std.proofs.lemmas.Bool.Decides.{nat_tests}
+use Rattle.std.specs.Prelude.{IfOk, MatchResult, ◌==◌}
 use Rattle.std.specs.Result.{result_err}
 use Rattle.arithmetic.specs.Values.{Value, empty, bounds}
 use Rattle.cells.specs.declared.cell.Interval.{Interval}
@@ -15,7 +17,7 @@ use Rattle.layouts.specs.declared.side.Side.TheVariants.{Lower}
 use Rattle.layouts.specs.Orders.{rows_in_order, first_zero}
 use Rattle.account.specs.declared.finding.Finding.{Finding}
 use Rattle.account.specs.declared.outcome.NoPair.{NoPair}
-use Rattle.account.specs.declared.outcome.NoPair.TheVariants.{Lacking}
+use Rattle.account.specs.declared.outcome.NoPair.TheVariants.{Lacking, PastLimit}
 use Rattle.account.specs.Findings.{Sound, Found}
 use Rattle.account.specs.FoundLaws.{standing_met}
 use Rattle.account.specs.Outcomes.{told, to_tell, within_limit, pair_value}
@@ -23,16 +25,18 @@ use Rattle.account.specs.Standings.{standing_of, dip_value, standing_by}
 use Rattle.station.specs.declared.total.NoTotal.{NoTotal}
 use Rattle.station.specs.declared.total.NoTotal.TheVariants.{TipWithoutPair}
 use Rattle.station.specs.declared.lack.Lack.{Lack}
+use Rattle.station.specs.declared.lack.Lack.TheVariants.{NeighbourPastLimit}
 use Rattle.station.specs.declared.line.Junction.{Junction}
 use Rattle.station.specs.declared.stop.Stop.{Stop}
+use Rattle.station.specs.declared.stop.Stop.TheVariants as stop
 use Rattle.station.specs.Boxes.{dip_at}
 use Rattle.station.specs.Findings.{CanBeWorked, unless_stopped, said, box_total, AllTotals}
 use Rattle.station.specs.Lacks.{lack_of}
 use Rattle.station.specs.Pressures.{calibrated, factors, pressure}
-use Rattle.station.specs.Stops.{first_past, stops_at_bound, stops_at_zero, solve_stop, box_stop, stopped}
+use Rattle.station.specs.Stops.{first_past, stops_at_bound, stops_at_zero, solve_stop, box_stop, number_of, stopped}
 use Rattle.station.specs.Totals.{no_total}
 use Rattle.station.proofs.Soundness.{Laws, pressure_tight}
-use Rattle.station.proofs.Stops.{or_else_none, none_past, none_zero, no_zeros, zero_none}
+use Rattle.station.proofs.Stops.{or_else_none, none_past, none_zero, no_zeros, zero_none, not_held}
 
 -- the pair that is told of a tip is the one that was worked out
 pub told_pair : {L : Type 0} (lack : L) (o : Result Interval (NoPair L)) (v : Value) → told o ≡ to_tell lack (Ok v) → pair_value o ≡ v
@@ -83,7 +87,12 @@ module _ (laws : Laws) (nth place : ℕ) (here : Junction) (h : place < 3) (nine
     where
       go : (r : Option Stop) → box_stop here ≡ r → Sound (said nth here place) (unless_stopped r (stopped nth place) (Ok (pressure here place)))
       go None e = pressure_tight laws here nine six (apart here e) place h
-      go (Some s) e = λ can. some_none s (sym e ∙ worked_out laws here can)
+      go (Some (stop.OverZero row)) e = λ can. some_none (stop.OverZero row) (sym e ∙ worked_out laws here can)
+      go (Some (stop.BeyondLimit f)) e =
+          let P : NoPair Lack → Type 0 = λ n. Sound (said nth here place) (Err n) in
+          cond_both (place == f.row) (PastLimit f.rounding.bound) (Lacking (NeighbourPastLimit (number_of nth f.row))) P
+          (λ t held. let same : place ≡ f.row = grind (arith, nat_tests) in not_held laws.of_cells here f e (rw same at held))
+          (λ t can. some_none (stop.BeyondLimit f) (sym e ∙ worked_out laws here can))
 
   standing_so : (q : Option Stop) → box_stop here ≡ q → standing_by o dip agreed ≡ standing_of o dip
   standing_so None e =

@@ -1,5 +1,5 @@
 -- What it tells that a box is stopped, or that it is not. Assumes the laws of cells, where they are named.
-use Rattle.std.proofs.Common.{◌≡◌, ℕ, zero, suc, ◌<◌, Bool, true, false, [], ◌∷◌, Some, None, Ok, Err, Option, Result, sym, refl, ap, ◌∙◌, arith}
+use Rattle.std.proofs.Common.{◌≡◌, ℕ, zero, suc, ◌<◌, Bool, true, false, [], ◌∷◌, Some, None, Ok, Err, Option, Result, ◌⊎◌, inl, inr, sym, refl, ap, subst, ◌∙◌, arith}
 use Rattle.std.specs.Prelude.{IfErr}
 use Rattle.arithmetic.specs.Values.{Value, Ordered}
 use Rattle.rounding.specs.declared.fault.RoundingFault.{RoundingFault}
@@ -14,6 +14,7 @@ use Rattle.layouts.specs.Matrix.{Matrix}
 use Rattle.layouts.specs.Orders.{rows_in_order, first_zero}
 use Rattle.station.specs.declared.line.Junction.{Junction}
 use Rattle.station.specs.declared.stop.Stop.{Stop}
+use Rattle.station.specs.declared.stop.Stop.TheVariants as stop
 use Rattle.station.specs.Pressures.{calibrated, factors, pressure}
 use Rattle.station.specs.Stops.{fault_of, or_else, first_past, stops_at_bound, stops_at_zero, solve_stop, box_stop, left_by, stop_row}
 use Rattle.station.proofs.Calls.{rising}
@@ -137,3 +138,59 @@ where_err P Q (Err e) f p = f p
 pub on_err : {T E : Type 0} (P : Type 0) (r : Result T E) → P → IfErr r (λ e. P)
 on_err P (Ok t) p = tt
 on_err P (Err e) p = p
+
+-- ---- a box that is stopped at a bound: no cell holds what is worked out at that row
+
+some_of : {T : Type 0} (a b : Option T) (x : T) → or_else a b ≡ Some x → (a ≡ Some x) ⊎ (b ≡ Some x)
+some_of None b x e = inr e
+some_of (Some y) b x e = inl e
+
+fault_here : (laws : cells.Laws) (row : ℕ) (v : Value) (f : CellFault) → fault_of (in_row row (kept v)) ≡ Some f → (f.row ≡ row) × (IsCell v → ⊥)
+fault_here laws row v f = go (kept v) refl
+  where
+    go : (q : Result Record RoundingFault) → kept v ≡ q → fault_of (in_row row q) ≡ Some f → (f.row ≡ row) × (IsCell v → ⊥)
+    go (Ok r) e h = cc
+    go (Err g) e h =
+        let same : ◌≡◌ {A = CellFault} (record { row = row; rounding = g }) f = cc in
+        (sym (ap (λ (x : CellFault). x.row) same), λ c. let k = laws.kept_cell v c in let z : ◌≡◌ {A = ℕ} 0 1 = cc in absurd (omega arith))
+
+pub past_here : (laws : cells.Laws) (v : ℕ → Value) (f : CellFault) → first_past v ≡ Some f → IsCell (v f.row) → ⊥
+past_here laws v f e c = by (some_of (fault_of (in_row 0 (kept (v 0)))) (or_else (fault_of (in_row 1 (kept (v 1)))) (fault_of (in_row 2 (kept (v 2))))) f e)
+  where
+    at : (row : ℕ) → fault_of (in_row row (kept (v row))) ≡ Some f → ⊥
+    at row h = let here = fault_here laws row (v row) f h in let P : ℕ → Type 0 = λ k. IsCell (v k) in here.1 (subst P here.0 c)
+
+    by : (fault_of (in_row 0 (kept (v 0))) ≡ Some f) ⊎ (or_else (fault_of (in_row 1 (kept (v 1)))) (fault_of (in_row 2 (kept (v 2)))) ≡ Some f) → ⊥
+    by (inl h) = at 0 h
+    by (inr h) = rest (some_of (fault_of (in_row 1 (kept (v 1)))) (fault_of (in_row 2 (kept (v 2)))) f h)
+      where
+        rest : (fault_of (in_row 1 (kept (v 1))) ≡ Some f) ⊎ (fault_of (in_row 2 (kept (v 2))) ≡ Some f) → ⊥
+        rest (inl g) = at 1 g
+        rest (inr g) = at 2 g
+
+bound_some : (o : Option CellFault) (f : CellFault) → stops_at_bound o ≡ Some (stop.BeyondLimit f) → o ≡ Some f
+bound_some None f e = cc
+bound_some (Some g) f e = cc
+
+zero_no_bound : (z : Option ℕ) (f : CellFault) → stops_at_zero z ≡ Some (stop.BeyondLimit f) → ⊥
+zero_no_bound None f e = cc
+zero_no_bound (Some row) f e = cc
+
+pub box_bound : (j : Junction) (f : CellFault) → box_stop j ≡ Some (stop.BeyondLimit f) → (first_past (calibrated j) ≡ Some f) ⊎ (first_past (pressure j) ≡ Some f)
+box_bound j f e = by (some_of (stops_at_bound (first_past (calibrated j))) (solve_stop j) (stop.BeyondLimit f) e)
+  where
+    by : (stops_at_bound (first_past (calibrated j)) ≡ Some (stop.BeyondLimit f)) ⊎ (solve_stop j ≡ Some (stop.BeyondLimit f)) → (first_past (calibrated j) ≡ Some f) ⊎ (first_past (pressure j) ≡ Some f)
+    by (inl h) = inl (bound_some (first_past (calibrated j)) f h)
+    by (inr h) = rest (some_of (stops_at_zero (first_zero (factors j) (rows_in_order Lower 3))) (stops_at_bound (first_past (pressure j))) (stop.BeyondLimit f) h)
+      where
+        rest : (stops_at_zero (first_zero (factors j) (rows_in_order Lower 3)) ≡ Some (stop.BeyondLimit f)) ⊎ (stops_at_bound (first_past (pressure j)) ≡ Some (stop.BeyondLimit f))
+            → (first_past (calibrated j) ≡ Some f) ⊎ (first_past (pressure j) ≡ Some f)
+        rest (inl g) = absurd (zero_no_bound (first_zero (factors j) (rows_in_order Lower 3)) f g)
+        rest (inr g) = inr (bound_some (first_past (pressure j)) f g)
+
+pub not_held : (laws : cells.Laws) (j : Junction) (f : CellFault) → box_stop j ≡ Some (stop.BeyondLimit f) → IsCell (calibrated j f.row) × IsCell (pressure j f.row) → ⊥
+not_held laws j f e held = by (box_bound j f e)
+  where
+    by : (first_past (calibrated j) ≡ Some f) ⊎ (first_past (pressure j) ≡ Some f) → ⊥
+    by (inl h) = past_here laws (calibrated j) f h held.0
+    by (inr h) = past_here laws (pressure j) f h held.1

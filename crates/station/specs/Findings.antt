@@ -38,6 +38,7 @@ said nth j place = record {
   pressure = unless_stopped (box_stop j) (stopped nth place) (Ok (pressure j place));
   pressures = Pressures j place;
   can_be_worked = CanBeWorked j;
+  can_be_held = IsCell (calibrated j place) × IsCell (pressure j place);
   dip = slice_index_or j.dips place None;
   lack = lack_of j.readings place;
 }
