@@ -1,11 +1,8 @@
--- The record that an instrument leaves where it gives nothing, what a record gives, and what an outcome tells of a lack.
-use Rattle.std.specs.Prelude.{◌≡◌, Bool, true, false, ◌&&◌, ℤ, pos, Ok, Err, Result, int_le}
+-- The record that an instrument leaves where it gives nothing, and what a record gives.
+use Rattle.std.specs.Prelude.{Bool, true, false, ◌&&◌, ℤ, pos, int_le}
 use Rattle.arithmetic.specs.Values.{Value, empty, bounds}
-use Rattle.cells.specs.declared.cell.Interval.{Interval}
 use Rattle.cells.specs.declared.cell.Record.{Record}
 use Rattle.cells.specs.Cells.{read_as}
-use Rattle.account.specs.declared.outcome.NoPair.{NoPair}
-use Rattle.account.specs.declared.outcome.NoPair.TheVariants.{Lacking, PastLimit}
 use Rattle.account.specs.declared.records.Given.{Given}
 use Rattle.account.specs.declared.records.Given.TheVariants.{Nothing, Broken, Good}
 
@@ -23,9 +20,3 @@ given_when false (bounds a b) = Good
 
 abbrev pub given_by : Record → Given
 given_by r = given_when (is_blank r) (read_as r)
-
--- a tip that lacks something lacks this
-abbrev pub TellsLack : {L : Type 0} → L → Result Interval (NoPair L) → Type 0
-TellsLack lack (Ok i) = Unit {0}
-TellsLack lack (Err (Lacking l)) = l ≡ lack
-TellsLack lack (Err (PastLimit b)) = Unit {0}

@@ -5,4 +5,5 @@ pub mod Groups
 pub mod Lacks
 pub mod Outcomes
 pub mod Standings
+pub mod Tallies
 pub mod Texts

@@ -2,23 +2,32 @@
 use Rattle.std.specs.Prelude.{ℕ, List, pos, Some, Ok, Err, Option, Result, codes}
 use Rattle.arithmetic.specs.Values.{Value, empty, bounds}
 use Rattle.rounding.specs.declared.fault.Bound.TheVariants.{Lower, Upper}
+use Rattle.rounding.specs.declared.fault.RoundingFault.{RoundingFault}
 use Rattle.cells.specs.declared.cell.Interval.{Interval}
 use Rattle.cells.specs.declared.cell.Record.{Record}
-use Rattle.cells.specs.declared.fault.CellFault.{CellFault}
 use Rattle.cells.specs.Cells.{read_as}
 use Rattle.account.specs.declared.outcome.NoPair.{NoPair}
 use Rattle.account.specs.declared.outcome.NoPair.TheVariants.{Lacking, PastLimit}
 
--- what an outcome tells of the tip at a row: a value, or the fault of a bound past the limit
-abbrev pub told : {L : Type 0} → ℕ → Result Interval (NoPair L) → Result Value CellFault
-told row (Ok i) = Ok (bounds i.lower i.upper)
-told row (Err (Lacking l)) = Ok empty
-told row (Err (PastLimit b)) = Err (record { row = row; rounding = record { bound = b } })
+-- what an outcome tells: the cell of a pair, or why there is none
+abbrev pub told : {L : Type 0} → Result Interval (NoPair L) → Result Value (NoPair L)
+told (Ok i) = Ok (bounds i.lower i.upper)
+told (Err n) = Err n
 
--- the record that a formula leaves, read as a cell
-abbrev pub as_read : Result Record CellFault → Result Value CellFault
-as_read (Ok r) = Ok (read_as r)
-as_read (Err f) = Err f
+-- a cell that is not empty is a pair; in an empty one something is lacking
+abbrev pub pair_or : {L : Type 0} → L → Value → Result Value (NoPair L)
+pair_or lack empty = Err (Lacking lack)
+pair_or lack (bounds a b) = Ok (bounds a b)
+
+-- what is to be told of a cell that was worked out, or of why it was not
+abbrev pub to_tell : {L : Type 0} → L → Result Value (NoPair L) → Result Value (NoPair L)
+to_tell lack (Ok v) = pair_or lack v
+to_tell lack (Err n) = Err n
+
+-- a cell that was worked out, or the bound of it that is past the limit
+abbrev pub within_limit : {L : Type 0} → Result Record RoundingFault → Result Value (NoPair L)
+within_limit (Ok r) = Ok (read_as r)
+within_limit (Err f) = Err (PastLimit f.bound)
 
 -- the pair that was worked out; empty where there is none
 abbrev pub pair_value : {L : Type 0} → Result Interval (NoPair L) → Value

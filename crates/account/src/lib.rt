@@ -9,5 +9,6 @@ pub mod outcome;
 pub mod printing;
 pub mod records;
 pub mod standing;
+pub mod tally;
 pub mod texts;
 pub mod units;

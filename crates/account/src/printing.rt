@@ -1,7 +1,8 @@
-// The account as it is printed: a heading, a line for each tip, a legend, a line for each box, the counts, and what to do next.
+// The account as it is printed: a heading; for each line its tips, its boxes, the counts and what to do next; and the calls of the sheet.
 use crate::finding::Finding;
 use crate::groups::{Group, Tips, count};
 use crate::outcome::{NoPair, Outcome, Reason};
+use crate::tally::Tally;
 use crate::units::UNIT;
 use crate::{bar, texts};
 use cells::cell::Interval;
@@ -16,14 +17,34 @@ pub struct Words<'a> {
     pub lacking: &'a str,
 }
 
-fn print_heading(rt: &(impl Print + AllocGlobal), tips: usize, notes: &str) -> io::Result<()> {
+// One line of the dam: its name, the lines below that, each with its line end, and what is found of its tips and of its boxes, both in
+// the order of the line. Its first box has the number `first_box`.
+#[derive(Clone, Copy)]
+pub struct Line<'a, L, T> {
+    pub name: &'a str,
+    pub notes: &'a str,
+    pub tips: &'a [Finding<L>],
+    pub totals: &'a [Outcome<T>],
+    pub first_box: usize,
+}
+
+fn print_heading(rt: &(impl Print + AllocGlobal), notes: &str) -> io::Result<()> {
     let limit = texts::kpa(rt.alloc(), LIMIT)?;
     println!(rt;
-        "MONDAY ACCOUNT OF THE UPSTREAM LINE: pore pressure at {tips} tips, beside the month's standpipe dips"
+        "MONDAY ACCOUNT OF THE DAM: pore pressure at the tips of each line, beside the month's standpipe dips"
     )?;
     println!(rt;
         "Scale: {UNIT} steps to one unit; one step is 0.01 kPa. Limit of a bound: {LIMIT} steps, {limit} kPa."
     )?;
+    print!(rt; "{notes}")?;
+    println!(rt;
+        "Bar: 10 kPa to a character; = the pair, o the dip, @ both in one; off the scale, shown at its edge."
+    )
+}
+
+fn print_title(rt: &impl Print, name: &str, notes: &str) -> io::Result<()> {
+    println!(rt)?;
+    println!(rt; "{name}")?;
     println!(rt; "{notes}")?;
     println!(rt;
         "Tip   bounds in steps       bounds in kPa          dip  the dip   pair and dip on a scale in kPa"
@@ -84,13 +105,6 @@ fn print_finding<L: fmt::Display>(
     }
 }
 
-fn print_legend(rt: &impl Print) -> io::Result<()> {
-    println!(rt)?;
-    println!(rt;
-        "Bar: 10 kPa to a character; = the pair, o the dip, @ both in one; off the scale, shown at its edge."
-    )
-}
-
 fn print_total<T: fmt::Display>(
     rt: &(impl Print + AllocGlobal),
     number: usize,
@@ -111,13 +125,14 @@ fn print_total<T: fmt::Display>(
 // The sum of the pairs of each box.
 fn print_totals<T: fmt::Display>(
     rt: &(impl Print + AllocGlobal),
+    first_box: usize,
     totals: &[Outcome<T>],
 ) -> io::Result<()> {
     println!(rt)?;
     println!(rt; "Box   sum in steps          sum in kPa")?;
     println!(rt; "       lower to   upper     lower to    upper")?;
-    for (nth, total) in totals.iter().enumerate() {
-        print_total(rt, nth + 1, total)?;
+    for (number, total) in (first_box..).zip(totals) {
+        print_total(rt, number, total)?;
     }
     println!(rt)
 }
@@ -130,8 +145,8 @@ fn print_counts<L: Reason>(
     let worked_out = count(findings, Group::WorkedOut);
     let lacking = count(findings, Group::Lacking);
     let past_limit = count(findings, Group::PastLimit);
-    print!(rt;
-        "Tips: {worked_out} worked out, {lacking} {lacking_words}, {past_limit} past the limit. "
+    println!(rt;
+        "Tips: {worked_out} worked out, {lacking} {lacking_words}, {past_limit} past the limit."
     )?;
     let inside = count(findings, Group::Inside);
     let outside = count(findings, Group::Outside);
@@ -145,7 +160,7 @@ fn print_counts<L: Reason>(
 // What to do for the tips of each group that has any, the most pressing first.
 const TASKS: [(Group, &str); 3] = [
     (Group::Outside, "repeat the dip at"),
-    (Group::AtFault, "inspect the instrument and cable at"),
+    (Group::AtFault, "inspect instrument, cable and seal at"),
     (Group::NoDip, "take the dip at"),
 ];
 
@@ -166,21 +181,41 @@ fn print_next<L: Reason + Copy>(rt: &impl Print, findings: &[Finding<L>]) -> io:
     println!(rt; ".")
 }
 
-// The findings of the tips and the totals of the boxes, both in the order of the line.
-pub fn print<L: Reason + fmt::Display + Copy, T: fmt::Display>(
+fn print_line<L: Reason + fmt::Display + Copy, T: fmt::Display>(
     rt: &(impl Print + AllocGlobal),
-    findings: &[Finding<L>],
-    totals: &[Outcome<T>],
-    words: Words,
+    line: &Line<'_, L, T>,
+    lacking_words: &str,
 ) -> io::Result<()> {
-    print_heading(rt, findings.len(), words.notes)?;
-    for finding in findings {
+    print_title(rt, line.name, line.notes)?;
+    for finding in line.tips {
         print_finding(rt, finding)?;
     }
-    print_legend(rt)?;
-    print_totals(rt, totals)?;
-    print_counts(rt, findings, words.lacking)?;
-    print_next(rt, findings)
+    print_totals(rt, line.first_box, line.totals)?;
+    print_counts(rt, line.tips, lacking_words)?;
+    print_next(rt, line.tips)
+}
+
+// Every call of the sheet is counted: its open, each set, its begin, each call on a column, and each post.
+fn print_calls(rt: &impl Print, calls: Tally) -> io::Result<()> {
+    println!(rt)?;
+    println!(rt;
+        "Calls: {} granted, {} refused, {} posted. Of the one sheet, with its open, sets, begin and posts.",
+        calls.granted, calls.refused, calls.posted
+    )
+}
+
+// The lines of the dam one after the other, and the calls of its sheet.
+pub fn print<L: Reason + fmt::Display + Copy, T: fmt::Display>(
+    rt: &(impl Print + AllocGlobal),
+    words: Words,
+    lines: &[Line<'_, L, T>],
+    calls: Tally,
+) -> io::Result<()> {
+    print_heading(rt, words.notes)?;
+    for line in lines {
+        print_line(rt, line, words.lacking)?;
+    }
+    print_calls(rt, calls)
 }
 
 #[cfg(test)]
@@ -234,6 +269,18 @@ mod tests {
             Err(NoPair::Lacking(Silent)),
             Err(NoPair::PastLimit(Bound::Lower)),
         ];
-        print(&rt, &findings, &totals, words)
+        let line = Line {
+            name: "LINE",
+            notes: "",
+            tips: &findings,
+            totals: &totals,
+            first_box: 1,
+        };
+        let calls = Tally {
+            granted: 3,
+            refused: 1,
+            posted: 1,
+        };
+        print(&rt, words, &[line], calls)
     }
 }

@@ -20,7 +20,7 @@ use Rattle.cells.specs.Cells.{IsCell, broken, read_as, written}
 use Rattle.cells.specs.Faults.{kept, paired}
 use Rattle.cells.specs.Formulas.{dot_cell, DotValues, sum_cell, SumValues, blend_cell, BlendValues}
 use Rattle.cells.specs.Questions.{nested}
-use Rattle.cells.specs.Quotients.{zero_in, divided}
+use Rattle.cells.specs.Quotients.{zero_in, nought, divided}
 use Rattle.cells.specs.JoinLaws.{met_in, met_out, hull_left, hull_right, hull_least}
 use Rattle.cells.specs.Laws.{Laws}
 use Rattle.cells.specs.Reading.{read_cell}
@@ -80,6 +80,12 @@ not_zero_apart (bounds c d) o e = ⊎_elim (λ l. inl (not_le c (pos 0) l)) (λ 
   where
     not_le : (a b : ℤ) → le_z a b ≡ false → b <ℤ a
     not_le a b e = by_lt_z b a (λ l. l) (λ l. absurd (false≢true (sym e ∙ true_le_z a b l)))
+
+zero_held : (u : ℤ) (d : Value) → zero_in d ≡ true → Inside u d nought
+zero_held u empty e = absurd (false≢true e)
+zero_held u (bounds c d) e =
+    let p = and_parts (le_z c (pos 0)) (le_z (pos 0) d) e in let low = le_z_true c (pos 0) p.0 in let high = le_z_true (pos 0) d p.1 in
+    record { least = omega (arith, ints, low); most = omega (arith, ints, high) }
 
 quotient_tight : (u : ℤ) (alpha x d : Value) → pos 0 <ℤ u → Ordered alpha → Ordered x → Ordered d → zero_in d ≡ false
     → Tightly u (QuotientSet (ProductSet (Inside u alpha) (Inside u x)) (Inside u d)) (divided (times alpha x) d)
@@ -159,6 +165,7 @@ laws = record {
   blend_grows = blend_grows;
   divided_apart = divided_apart;
   not_zero_apart = not_zero_apart;
+  zero_held = zero_held;
   quotient_tight = quotient_tight;
   join_tight = join_tight;
   meet_in = met_in;

@@ -11,7 +11,7 @@ use Rattle.cells.specs.Formulas.{dot_cell, DotValues, sum_cell, SumValues, blend
 use Rattle.cells.specs.Held.{Chosen}
 use Rattle.cells.specs.Joins.{met, hulled}
 use Rattle.cells.specs.Questions.{nested}
-use Rattle.cells.specs.Quotients.{zero_in, divided}
+use Rattle.cells.specs.Quotients.{zero_in, nought, divided}
 use Rattle.cells.specs.Rules.{Admitted, Rule}
 use Rattle.cells.specs.Scales.{IsScale}
 
@@ -46,6 +46,8 @@ pub record Laws : Type 0 where
   -- a quotient by a cell that does not hold 0: the four quotients of bounds, tight for alpha·x over the divisor
   pub divided_apart : (v d : Value) → zero_in d ≡ false → divided v d ≡ quotients v d
   pub not_zero_apart : (d : Value) → Ordered d → zero_in d ≡ false → Apart d
+  -- and a cell that is told to hold 0 does
+  pub zero_held : (u : ℤ) (d : Value) → zero_in d ≡ true → Inside u d nought
   pub quotient_tight : (u : ℤ) (alpha x d : Value) → pos 0 <ℤ u → Ordered alpha → Ordered x → Ordered d → zero_in d ≡ false
       → Tightly u (QuotientSet (ProductSet (Inside u alpha) (Inside u x)) (Inside u d)) (divided (times alpha x) d)
   -- a join, for every rule: the values that it admits from what can be chosen out of the operands. How they grow is the rule's own law

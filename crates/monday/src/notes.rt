@@ -1,5 +1,6 @@
 // The lines of the account that this station adds in its own words.
 use station::line::TIPS_OF_A_BOX;
+use station::logger::Logged;
 use std::alloc::{AllocError, Global};
 use std::fmt;
 
@@ -15,13 +16,23 @@ impl fmt::Display for Numbers<'_> {
     }
 }
 
-// The instruments are those of the tips, in the order of the line.
-pub fn notes(heap: Global, instruments: &[u32]) -> Result<String, AllocError> {
+// How the pressures come about, for the warden.
+pub fn notes(heap: Global) -> Result<String, AllocError> {
     format!(in heap;
         "Boxes: every {0} tips share one, calibrated by a band matrix, since neighbours leak a little into one another.\n\
-         Where one reading of a box is missing, none of its {0} tips gets a pair; the other boxes are not touched.\n\
-         Instruments, tip by tip: {1}.\n",
-        TIPS_OF_A_BOX,
-        Numbers { instruments }
+         A tip shows a little of the pressures at those before it in its box: a triangle of factors takes that out.\n\
+         Where a reading is missing, a bound past the limit or a factor over zero, none of the {0} tips gets a pair:\n\
+         nothing is posted of a call that is refused, and the other boxes are not touched.\n",
+        TIPS_OF_A_BOX
+    )
+}
+
+// The instruments of a line, in the order of its tips.
+pub fn instruments(heap: Global, tips: &Logged) -> Result<String, AllocError> {
+    format!(in heap;
+        "Instruments, tip by tip: {}.\n",
+        Numbers {
+            instruments: &tips.instruments
+        }
     )
 }

@@ -1,33 +1,12 @@
 // The upstream line: what the logging station holds of it this month, in steps.
+use crate::records::{band, records, triangle};
 use account::records::NOTHING;
-use cells::cell::{EMPTY, Record};
-use station::line::{BOXES, CALIBRATION_PLACES, Junction, TIPS, TIPS_OF_A_BOX};
+use cells::cell::Record;
+use station::line::{BOXES_OF_A_LINE, Junction, TIPS_OF_A_LINE};
 use station::logger::Logged;
 
-type Pair = (i32, i32);
-
-fn records(pairs: [Pair; TIPS_OF_A_BOX]) -> [Record; TIPS_OF_A_BOX] {
-    pairs.map(Record::from)
-}
-
-// Band storage, column after column, each from above the diagonal to below it. The first column has nothing above and the
-// last nothing below, so the first and the last place of the run belong to no entry.
-fn band(diagonal: [Pair; 3], below: [Pair; 2], above: [Pair; 2]) -> [Record; CALIBRATION_PLACES] {
-    [
-        EMPTY,
-        Record::from(diagonal[0]),
-        Record::from(below[0]),
-        Record::from(above[0]),
-        Record::from(diagonal[1]),
-        Record::from(below[1]),
-        Record::from(above[1]),
-        Record::from(diagonal[2]),
-        EMPTY,
-    ]
-}
-
 // The channel of each tip, as the cables were led into the logger.
-pub const CHANNELS: [usize; TIPS] = [2, 0, 1, 5, 3, 4, 8, 9, 11, 6, 7, 10];
+pub const CHANNELS: [usize; TIPS_OF_A_LINE] = [2, 0, 1, 5, 3, 4, 8, 9, 11, 6, 7, 10];
 
 // Channel by channel.
 pub fn logged() -> Logged {
@@ -50,15 +29,14 @@ pub fn logged() -> Logged {
             (1233, 1235),
             (1040, 1043),
             (399, 402),
-            // a loose contact: the current jumps over nearly all of the instrument's range
-            (410, 2090),
+            (539, 541),
         ]
         .map(Record::from),
     }
 }
 
 // From the core outward, so that the pressure falls from tip to tip. The readings are those of the tips in this order.
-pub fn line(readings: &[Record; TIPS]) -> [Junction; BOXES] {
+pub fn boxes(readings: &[Record; TIPS_OF_A_LINE]) -> [Junction; BOXES_OF_A_LINE] {
     [
         Junction {
             readings: [readings[0], readings[1], readings[2]],
@@ -68,7 +46,8 @@ pub fn line(readings: &[Record; TIPS]) -> [Junction; BOXES] {
                 [(-30, -20), (12, 18)],
                 [(-30, -20), (-24, -16)],
             ),
-            dips: [Some(30870), Some(28210), Some(26440)],
+            factors: triangle([(98, 99), (1, 2), (0, 1), (97, 98), (1, 2), (98, 98)]),
+            dips: [Some(31370), Some(28210), Some(26130)],
         },
         // of these three only tip 6 reads well
         Junction {
@@ -79,9 +58,9 @@ pub fn line(readings: &[Record; TIPS]) -> [Junction; BOXES] {
                 [(-30, -20), (-30, -20)],
                 [(12, 18), (12, 18)],
             ),
+            factors: triangle([(98, 99), (1, 2), (0, 1), (98, 99), (1, 2), (97, 98)]),
             dips: [Some(24630), Some(23300), Some(22310)],
         },
-        // what leaks from the loose contact at tip 9 into tip 8 makes the pair there wide
         Junction {
             readings: [readings[6], readings[7], readings[8]],
             offsets: records([(-10010, -9990), (-10010, -9990), (-35030, -34970)]),
@@ -90,7 +69,8 @@ pub fn line(readings: &[Record; TIPS]) -> [Junction; BOXES] {
                 [(12, 18), (12, 18)],
                 [(-30, -20), (-30, -20)],
             ),
-            dips: [Some(21960), Some(15840), Some(12450)],
+            factors: triangle([(99, 100), (2, 2), (0, 1), (98, 98), (1, 2), (97, 98)]),
+            dips: [Some(21960), Some(15990), Some(12450)],
         },
         // no dip was taken at tip 10; tip 12 stands nearly dry
         Junction {
@@ -101,6 +81,7 @@ pub fn line(readings: &[Record; TIPS]) -> [Junction; BOXES] {
                 [(12, 18), (12, 18)],
                 [(-9, -6), (-9, -6)],
             ),
+            factors: triangle([(99, 100), (1, 1), (0, 0), (98, 99), (0, 1), (99, 100)]),
             dips: [None, Some(3720), Some(10)],
         },
     ]

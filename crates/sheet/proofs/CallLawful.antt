@@ -2,6 +2,7 @@
 use Rattle.layouts.specs.Laws.{Laws}
 use Rattle.sheet.specs.CallLaws.{CallLaws}
 use Rattle.sheet.proofs.FirstPast.{first_past}
+use Rattle.sheet.proofs.InOrder.{stops_first}
 use Rattle.sheet.proofs.FirstZero.{zero_first}
 use Rattle.sheet.proofs.Orders.{rows_before}
 use Rattle.sheet.proofs.Solving.{solution_row, solution_only}
@@ -13,4 +14,5 @@ call_laws laws = record {
   solution_only = solution_only laws;
   zero_first = zero_first;
   stops_at = first_past;
+  stops_first = stops_first laws;
 }

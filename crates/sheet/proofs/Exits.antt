@@ -8,14 +8,15 @@ use Rattle.arithmetic.specs.Values.{Value, empty, bounds}
 use Rattle.rounding.specs.declared.fault.RoundingFault.{RoundingFault}
 use Rattle.rounding.specs.Outward.{beyond}
 use Rattle.cells.specs.declared.cell.Record.{Record}
-use Rattle.cells.specs.declared.fault.CellFault.{CellFault}
 use Rattle.cells.specs.Cells.{blank, written}
 use Rattle.cells.specs.Faults.{kept}
 use Rattle.sheet.specs.declared.refusal.Refusal.{Refusal}
 use Rattle.sheet.specs.declared.refusal.Refusal.TheVariants.{WrongLength, BeyondLimit}
 use Rattle.sheet.specs.declared.refusal.CallName.{CallName}
 use Rattle.sheet.specs.declared.shape.Shape.{Shape}
+use Rattle.sheet.specs.declared.refusal.SheetFault.{SheetFault}
 use Rattle.sheet.specs.Answers.{check_answer, call_answer}
+use Rattle.sheet.specs.Faults.{in_call}
 use Rattle.sheet.specs.Calls.{Call, name, target}
 use Rattle.sheet.specs.Checks.{Answer, Check, check, granted, refused, first_refusal, checks, worked_rows, limits}
 use Rattle.sheet.specs.Memory.{has_both, cells_in, written_rows}
@@ -53,18 +54,18 @@ module _ (s : Shape) (call : Call) (cells draft : List Record) where
   unfolding call_answer
   answer_passed e = subst (Decides all) e (decides all) last
 
--- the answer to a fault of a call on column k
-abbrev pub fault_answer : CallName → (k : ℕ) → Result (Unit {0}) CellFault → Answer
-fault_answer call k (Ok u) = granted
-fault_answer call k (Err f) = refused (BeyondLimit (record { call = call; column = k; cell = f }))
+-- the answer to a fault
+abbrev pub fault_answer : Result (Unit {0}) SheetFault → Answer
+fault_answer (Ok u) = granted
+fault_answer (Err f) = refused (BeyondLimit f)
 
 -- rows are refused exactly if one of their cells is not kept, and then with the fault of the first
-pub limits_fault : (call : CallName) (k : ℕ) (new : ℕ → Value) (rows : List ℕ) → first_refusal (limits call k new rows) granted ≡ fault_answer call k (first_fault new rows)
+pub limits_fault : (call : CallName) (k : ℕ) (new : ℕ → Value) (rows : List ℕ) → first_refusal (limits call k new rows) granted ≡ fault_answer (in_call call k (first_fault new rows))
 limits_fault call k new [] = refl
 limits_fault call k new (row ∷ rows) = go (new row) refl (limits_fault call k new rows)
   where
     Same : List ℕ → Type 0
-    Same is = first_refusal (limits call k new is) granted ≡ fault_answer call k (first_fault new is)
+    Same is = first_refusal (limits call k new is) granted ≡ fault_answer (in_call call k (first_fault new is))
 
     by : (a b : ℤ) (p q : Bool) → beyond a ≡ p → beyond b ≡ q → new row ≡ bounds a b → Same rows → Same (row ∷ rows)
     by a b true q e f w rest = rw (w, e) refl

@@ -16,7 +16,8 @@ pub mod Gathering
 pub mod GoingOn
 pub mod Growth
 pub mod Holding
-pub mod Inside
+pub mod InOrder
+mod Inside
 pub mod Keeping
 pub mod Nearing
 pub mod Nesting

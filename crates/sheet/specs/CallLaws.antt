@@ -13,7 +13,7 @@ use Rattle.layouts.specs.Rows.{solve_cell}
 use Rattle.sheet.specs.declared.refusal.Refusal.TheVariants.{DivisorHoldsZero}
 use Rattle.sheet.specs.declared.shape.Shape.{Shape}
 use Rattle.sheet.specs.Answers.{call_answer}
-use Rattle.sheet.specs.Calls.{Meaning, Call, solve, name, target}
+use Rattle.sheet.specs.Calls.{Meaning, Call, dot, sum, blend, product, solve, join, copy, permute, name, target}
 use Rattle.sheet.specs.Checks.{Check, check, refused, checks, worked_rows, lower_fits, upper_fits, past_limit}
 use Rattle.sheet.specs.Memory.{has_both, cells_in}
 use Rattle.sheet.specs.NewColumns.{solution, new_column}
@@ -50,6 +50,17 @@ pub record StopsAt (s : Shape) (call : Call) (cells draft : List Record) (row : 
 abbrev pub Solves : Side → Matrix → (alpha : Value) (x z : ℕ → Value) → Type 0
 Solves side m alpha x z = (i : ℕ) → i < m.rows → z i ≡ solve_cell side m alpha (x i) z i
 
+-- row j is worked before row i: in rising order, and in a solve as its rows depend on one another. One row alone has none before it
+abbrev pub WorkedBefore : Call → (i j : ℕ) → Type 0
+WorkedBefore (dot k r x y alpha beta) i j = ⊥
+WorkedBefore (sum k r x) i j = ⊥
+WorkedBefore (blend k x alpha beta) i j = j < i
+WorkedBefore (product k x l alpha beta) i j = j < i
+WorkedBefore (solve k side t alpha) i j = SolvedBefore side t.matrix.rows i j
+WorkedBefore (join k x rule) i j = ⊥
+WorkedBefore (copy k x) i j = ⊥
+WorkedBefore (permute k order) i j = ⊥
+
 pub record CallLaws : Type 0 where
   -- the rows solved before the row of a step are those of the steps before it
   pub rows_before : (side : Side) (n step j : ℕ) → step < n → SolvedBefore side n (row_at side n step) j ↔ ((q : ℕ) × (q < step) × (row_at side n q ≡ j))
@@ -62,3 +73,6 @@ pub record CallLaws : Type 0 where
   -- refusal 10 names the first bound, in working order, that is beyond the limit, and is given nowhere else. When a call is granted, and
   -- what the other refusals tell, is said in RefusalLaws
   pub stops_at : (s : Shape) (call : Call) (cells draft : List Record) (row : ℕ) (bound : Bound) → (call_answer s call cells draft ≡ refused (past_limit (name call) (target call) row bound)) ↔ StopsAt s call cells draft row bound
+  -- so no row that is worked before it has a bound beyond the limit
+  pub stops_first : (s : Shape) (call : Call) (cells draft : List Record) (row : ℕ) (bound : Bound) → call_answer s call cells draft ≡ refused (past_limit (name call) (target call) row bound)
+      → (j : ℕ) → WorkedBefore call row j → BothFit (new_column s call (cells_in s cells) j)

@@ -1,5 +1,5 @@
 // What the calls work out of a column, row by row: each is a formula for `work`.
-ghost use Rattle.std.specs.Prelude.{◌≡◌, ◌<◌, ◌≤◌, ◌==◌, cond, length, nat_lt};
+ghost use Rattle.std.specs.Prelude.{◌<◌, ◌≤◌, ◌==◌, cond, length, nat_lt};
 ghost use Rattle.cells.specs.Cells.{cell_value, cell_at};
 ghost use Rattle.cells.specs.Formulas.{dot_cell, sum_cell, blend_cell};
 ghost use Rattle.layouts.specs.Rows.{product_cell};

@@ -1,12 +1,8 @@
 // The lengths of the supplied memory, and the columns in it.
-ghost use Rattle.std.specs.Prelude.{◌≡◌, ◌<◌, ◌+◌, ◌*◌, ◌≤◌, length, replicate};
-ghost use Rattle.cells.specs.Cells.{blank};
-ghost use Rattle.sheet.specs.Checks.{granted, first_refusal, column_named, row_named};
+ghost use Rattle.std.specs.Prelude.{◌≡◌, ◌<◌, ◌+◌, ◌*◌, length};
 ghost use Rattle.sheet.specs.Memory.{has_cells, has_both, column, blanks};
-ghost use Rattle.sheet.specs.Outcomes.{answer_of};
 ghost use Rattle.sheet.specs.Shapes.{Legal};
 
-use crate::refusal::{CallName, Refusal};
 use crate::shape::Shape;
 use cells::cell::{EMPTY, Record};
 

@@ -1,5 +1,4 @@
 // The new columns whose cells depend on no other new cell.
-ghost use Rattle.std.specs.Prelude.{◌≡◌};
 ghost use Rattle.std.specs.Prelude.{get_or};
 ghost use Rattle.cells.specs.Cells.{cell_at};
 ghost use Rattle.cells.specs.Rules.{Rule};

@@ -1,5 +1,5 @@
 // What working and drafted sheets are asked. The columns answer as they stand, also while a draft stands.
-ghost use Rattle.std.specs.Prelude.{◌≡◌, ◌<◌, true, [], ◌∷◌, Some, None, MatchResult};
+ghost use Rattle.std.specs.Prelude.{◌≡◌, ◌<◌, true, [], ◌∷◌, MatchResult};
 ghost use Rattle.cells.specs.Cells.{cell_value};
 ghost use Rattle.sheet.specs.Checks.{granted, refused, first_refusal, row_named};
 ghost use Rattle.sheet.specs.Memory.{has_cells, column, cells_in};

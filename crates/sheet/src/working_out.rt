@@ -6,6 +6,7 @@ ghost use Rattle.cells.specs.Cells.{cell_at};
 ghost use Rattle.cells.specs.Faults.{kept, in_row};
 ghost use Rattle.sheet.specs.Answers.{empties_draft};
 ghost use Rattle.sheet.specs.Checks.{granted, first_refusal, limits};
+ghost use Rattle.sheet.specs.Faults.{in_call};
 ghost use Rattle.sheet.specs.Memory.{blanks, written_rows};
 ghost use Rattle.sheet.specs.Outcomes.{answer_of};
 ghost use Rattle.sheet.specs.WorkingOrders.{rows_of};
@@ -72,7 +73,22 @@ fn work_rows<F: RowFormula>(formula: &F, draft: &mut [Record]) -> Result<(), Cel
     Ok(())
 }
 
-// The new column of a call on column k is drafted. A fault leaves the draft empty.
+// The same for a call on column k: a fault is told with both.
+fn work_in_call<F: RowFormula>(
+    call: CallName,
+    k: usize,
+    formula: &F,
+    draft: &mut [Record],
+) -> Result<(), SheetFault>
+    requires { draft.old ≡ written_rows (length (F.RowFormula.old formula.now)) (cell_at (F.RowFormula.old formula.now)) }
+    ensures fault { result ≡ in_call call k (first_fault (F.RowFormula.new formula.now) (rows_of (F.RowFormula.rows formula.now))) }
+    ensures length { length draft.new ≡ length draft.old }
+    ensures left { IfOk result (λ u. draft.new ≡ written_rows (length draft.old) (F.RowFormula.new formula.now)) }
+{
+    Ok(work_rows(formula, draft).map_err(|fault| (call, k, fault))?)
+}
+
+// The new column of a call on column k is drafted. No row that was worked before a fault is left in the draft.
 pub(crate) fn work<F: RowFormula>(
     call: CallName,
     k: usize,
@@ -85,11 +101,9 @@ pub(crate) fn work<F: RowFormula>(
 {
     let column = formula.column();
     write_rows(&Copied { column }, draft);
-    match work_rows(formula, draft) {
-        Ok(()) => Ok(()),
-        Err(fault) => {
-            clear(draft);
-            Err(Refusal::from(SheetFault::from((call, k, fault))))
-        }
+    let came = work_in_call(call, k, formula, draft);
+    if came.is_err() {
+        clear(draft);
     }
+    Ok(came?)
 }

@@ -1,5 +1,9 @@
 pub mod Calls
+pub mod Columns
+pub mod Counts
 pub mod Findings
 pub mod Sheets
-mod Soundness
+pub mod Soundness
+pub mod Stops
 pub mod Three
+pub mod Totals

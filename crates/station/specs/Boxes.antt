@@ -1,29 +1,23 @@
--- The sheet of a junction box: its shape, and what its cells are set to.
-use Rattle.std.specs.Prelude.{ℕ, List, ℤ, pos, None, Ok, Err, Option, Result, codes, slice_index_or}
-use Rattle.arithmetic.specs.Values.{Value, empty}
+-- The sheet of the dam: its shape, and what the columns of a box are set to.
+use Rattle.std.specs.Prelude.{◌≡◌, ℕ, ◌+◌, ◌<◌, List, ℤ, pos, None, Option, slice_index_or}
+use Rattle.arithmetic.specs.Values.{Value}
 use Rattle.cells.specs.declared.cell.Record.{Record}
-use Rattle.cells.specs.declared.fault.CellFault.{CellFault}
-use Rattle.cells.specs.Cells.{blank, read_as}
+use Rattle.cells.specs.Cells.{cell_at}
 use Rattle.account.specs.Standings.{dip_value}
 use Rattle.sheet.specs.declared.shape.Shape.{Shape}
+use Rattle.sheet.specs.Memory.{cells_in}
+use Rattle.station.specs.declared.line.Junction.{Junction}
 
--- 100 steps to one unit, a row for each tip of the box, and five columns
-abbrev pub box_shape : Shape
-box_shape = record { scale = pos 100; rows = 3; columns = 5 }
-
--- what was worked out as a pair: empty where a record is, and past the limit
-abbrev pub worked_value : Result Record CellFault → Value
-worked_value (Ok r) = read_as r
-worked_value (Err f) = empty
-
--- what was worked out of the tip at a place
-abbrev pub pair_at : List (Result Record CellFault) → (place : ℕ) → Value
-pair_at worked place = worked_value (slice_index_or worked place (Ok blank))
+-- 100 steps to one unit, a row for each tip of a box, and four columns for each of eight boxes
+abbrev pub dam_shape : Shape
+dam_shape = record { scale = pos 100; rows = 3; columns = 32 }
 
 -- the dip that was taken at a place, as a cell
 abbrev pub dip_at : List (Option ℤ) → (place : ℕ) → Value
 dip_at dips place = dip_value (slice_index_or dips place None)
 
--- what a box without a total lacks
-abbrev pub missing_words : List ℕ
-missing_words = codes "no total: a tip of the box has no pair"
+-- the columns of the box at a place of the dam, which begin with this one, hold what the station holds of the box
+pub record Filled (cells : List Record) (first : ℕ) (j : Junction) : Type 0 where
+  pub readings : (row : ℕ) → row < 3 → cells_in dam_shape cells first row ≡ cell_at j.readings row
+  pub offsets : (row : ℕ) → row < 3 → cells_in dam_shape cells (first + 1) row ≡ cell_at j.offsets row
+  pub dips : (row : ℕ) → row < 3 → cells_in dam_shape cells (first + 2) row ≡ dip_at j.dips row

@@ -1,61 +1,60 @@
 -- What is found of the tip at a row: everything comes from the records of that tip's own box, and the pair is as narrow as
 -- its bounds in whole steps can be.
-use Rattle.std.specs.Prelude.{◌≡◌, ℕ, ◌/◌, ◌%◌, ◌<◌, List, [], ◌∷◌, pos, None, Result, slice_index_or}
-use Rattle.arithmetic.specs.Sets.{Set}
-use Rattle.arithmetic.specs.Values.{Value, Inside}
+use Rattle.std.specs.Prelude.{◌≡◌, ℕ, ◌/◌, ◌%◌, ◌<◌, false, List, pos, Some, None, Ok, Err, Option, Result, slice_index_or}
+use Rattle.arithmetic.specs.Values.{Value, Tightly}
 use Rattle.cells.specs.declared.cell.Interval.{Interval}
-use Rattle.cells.specs.declared.cell.Record.{Record}
-use Rattle.cells.specs.declared.fault.CellFault.{CellFault}
-use Rattle.cells.specs.Cells.{blank, cell_at}
-use Rattle.cells.specs.Faults.{kept, in_row}
+use Rattle.cells.specs.Cells.{IsCell, blank}
+use Rattle.cells.specs.Faults.{kept}
 use Rattle.cells.specs.Formulas.{sum_cell}
-use Rattle.layouts.specs.Matrix.{Matrix}
-use Rattle.layouts.specs.Rows.{product_cell, ProductValues}
-use Rattle.layouts.specs.Stored.{band}
+use Rattle.cells.specs.Quotients.{zero_in}
 use Rattle.account.specs.declared.finding.Finding.{Finding}
 use Rattle.account.specs.Findings.{Said, AllFound as AllSaid}
 use Rattle.account.specs.declared.outcome.NoPair.{NoPair}
-use Rattle.account.specs.Outcomes.{unity, told, as_read}
-use Rattle.station.specs.declared.job.Missing.{Missing}
+use Rattle.account.specs.declared.outcome.NoPair.TheVariants.{Lacking}
+use Rattle.account.specs.Outcomes.{told, to_tell, within_limit}
 use Rattle.station.specs.declared.lack.Lack.{Lack}
 use Rattle.station.specs.declared.line.Junction.{Junction}
-use Rattle.station.specs.Boxes.{pair_at}
+use Rattle.station.specs.declared.stop.Stop.{Stop}
+use Rattle.station.specs.declared.total.NoTotal.{NoTotal}
+use Rattle.station.specs.declared.total.NoTotal.TheVariants.{TipWithoutPair}
 use Rattle.station.specs.Lacks.{lack_of}
+use Rattle.station.specs.Pressures.{calibrated, factors, pressure, Shown, Pressures}
+use Rattle.station.specs.Stops.{box_stop, stopped}
+use Rattle.station.specs.Totals.{no_total}
 
--- 3 by 3, one place below the diagonal and one above
-abbrev pub calibration : Junction → Matrix
-calibration j = band j.calibration 3 3 1 1 3
+-- no bound of a cell of the box is past the limit, and no factor on the diagonal holds 0
+abbrev pub CanBeWorked : Junction → Type 0
+CanBeWorked j = (row : ℕ) → row < 3 → IsCell (calibrated j row) × (zero_in ((factors j).entry row row) ≡ false) × IsCell (pressure j row)
 
--- offset + Σ calibration·reading at a place of a box, at 100 steps to one unit
-abbrev pub pressure : Junction → ℕ → Value
-pressure j place = product_cell (pos 100) (calibration j) unity unity (cell_at j.offsets place) (cell_at j.readings) place
+-- the cell of a pressure, or why there is none where the box is stopped
+abbrev pub unless_stopped : {T L : Type 0} → Option Stop → (Stop → NoPair L) → Result T (NoPair L) → Result T (NoPair L)
+unless_stopped None why then = then
+unless_stopped (Some s) why then = Err (why s)
 
--- what is worked out at the three places of a box: a record for each, or the fault of a bound past the limit
-abbrev pub pressures : Junction → List (Result Record CellFault)
-pressures j = in_row 0 (kept (pressure j 0)) ∷ (in_row 1 (kept (pressure j 1)) ∷ (in_row 2 (kept (pressure j 2)) ∷ []))
-
--- the pressures that the tip at a place can have: offset, calibration and readings are any fractions inside their pairs. How many
--- readings there are is a name of its own here, for the proof that the calibration has three columns.
-abbrev pub PressuresOver : ℕ → Junction → ℕ → Set
-PressuresOver n j place =
-    ProductValues (Inside (pos 100) unity) (Inside (pos 100) unity) (Inside (pos 100) (cell_at j.offsets place)) (λ i k. Inside (pos 100) ((calibration j).entry i k))
-    (λ k. Inside (pos 100) (cell_at j.readings k)) place n
-
-abbrev pub Pressures : Junction → ℕ → Set
-Pressures j place = PressuresOver 3 j place
-
--- what the records of its box say of the tip at a place
-abbrev pub said : Junction → ℕ → Said Lack
-said j place = record { reading = slice_index_or j.readings place blank; pressure = pressure j place; pressures = Pressures j place; dip = slice_index_or j.dips place None; lack = lack_of j.readings place }
+-- what the records of its box, the nth of the dam, say of the tip at a place
+abbrev pub said : (nth : ℕ) → Junction → (place : ℕ) → Said Lack
+said nth j place = record {
+  reading = slice_index_or j.readings place blank;
+  pressure = unless_stopped (box_stop j) (stopped nth place) (Ok (pressure j place));
+  pressures = Pressures j place;
+  can_be_worked = CanBeWorked j;
+  can_be_held = IsCell (calibrated j place) × IsCell (pressure j place);
+  dip = slice_index_or j.dips place None;
+  lack = lack_of j.readings place;
+}
 
 -- the first n findings are those of the first n tips, in their order: a box has three, and a row is a place of a box
 abbrev pub AllFound : List Junction → ℕ → List (Finding Lack) → Type 0
-AllFound line n fs = AllSaid (λ k j. said (slice_index_or line (k / 3) j) (k % 3)) (λ k. k % 3) n fs
+AllFound dam n fs = AllSaid (λ k j. said (k / 3) (slice_index_or dam (k / 3) j) (k % 3)) n fs
 
--- the sum of a box's pairs, worked out in the first row of a column
-abbrev pub box_total : Junction → Result Record CellFault
-box_total j = in_row 0 (kept (sum_cell (pair_at (pressures j)) 3))
+-- the sum of the pressures of a box, the nth of the dam; where it is stopped it has none
+abbrev pub box_total : (nth : ℕ) → Junction → Result Value (NoPair NoTotal)
+box_total nth j = unless_stopped (box_stop j) (λ s. Lacking (no_total nth s)) (within_limit (kept (sum_cell (pressure j) 3)))
 
 -- the first n totals are those of the first n boxes, in their order
-abbrev pub AllTotals : List Junction → ℕ → List (Result Interval (NoPair Missing)) → Type 0
-AllTotals line n ts = (k : ℕ) (j : Junction) (t : Result Interval (NoPair Missing)) → k < n → told 0 (slice_index_or ts k t) ≡ as_read (box_total (slice_index_or line k j))
+abbrev pub AllTotals : List Junction → ℕ → List (Result Interval (NoPair NoTotal)) → Type 0
+AllTotals dam n ts = (k : ℕ) (j : Junction) (t : Result Interval (NoPair NoTotal)) → k < n → told (slice_index_or ts k t) ≡ to_tell TipWithoutPair (box_total k (slice_index_or dam k j))
+
+-- what each tip shows is tight as well: its cell holds all that the records of its box allow, with less than one step to spare
+abbrev pub ShownTightly : List Junction → Type 0
+ShownTightly dam = (nth : ℕ) (j : Junction) (place : ℕ) → nth < 8 → Tightly (pos 100) (Shown (slice_index_or dam nth j) place) (calibrated (slice_index_or dam nth j) place)

@@ -1,5 +1,5 @@
 -- What a tip of a junction box lacks, by the readings of the box.
-use Rattle.std.specs.Prelude.{ℕ, Bool, true, false, ◌&&◌, List, codes, slice_index_or}
+use Rattle.std.specs.Prelude.{ℕ, Bool, true, false, ◌&&◌, List, ◌++◌, codes, decimal, slice_index_or}
 use Rattle.cells.specs.declared.cell.Record.{Record}
 use Rattle.cells.specs.Cells.{blank, cell_at}
 use Rattle.layouts.specs.Filled.{is_filled}
@@ -7,7 +7,7 @@ use Rattle.account.specs.declared.records.Given.{Given}
 use Rattle.account.specs.declared.records.Given.TheVariants as given
 use Rattle.account.specs.Lacks.{given_by}
 use Rattle.station.specs.declared.lack.Lack.{Lack}
-use Rattle.station.specs.declared.lack.Lack.TheVariants.{NothingGiven, Broken, NeighbourMissing, Uncalibrated}
+use Rattle.station.specs.declared.lack.Lack.TheVariants.{NothingGiven, Broken, NeighbourMissing, Uncalibrated, NeighbourPastLimit, FactorOverZero, NeighbourOverZero}
 
 -- every reading of a box is good
 abbrev pub all_read : List Record → Bool
@@ -30,9 +30,15 @@ own_lack NothingGiven = true
 own_lack Broken = true
 own_lack NeighbourMissing = false
 own_lack Uncalibrated = true
+own_lack (NeighbourPastLimit tip) = false
+own_lack FactorOverZero = true
+own_lack (NeighbourOverZero tip) = false
 
 abbrev pub lack_words : Lack → List ℕ
 lack_words NothingGiven = codes "no reading: the instrument gave nothing"
 lack_words Broken = codes "no reading: its record is broken"
 lack_words NeighbourMissing = codes "no pair: another reading of its box is missing"
-lack_words Uncalibrated = codes "no pair: calibration or offset missing"
+lack_words Uncalibrated = codes "no pair: calibration, offset or factor missing"
+lack_words (NeighbourPastLimit tip) = codes "no pair: a bound at tip " ++ (decimal tip ++ codes " is past the limit")
+lack_words FactorOverZero = codes "no pair: its factor has drifted over zero"
+lack_words (NeighbourOverZero tip) = codes "no pair: the factor of tip " ++ (decimal tip ++ codes " is over zero")

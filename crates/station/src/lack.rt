@@ -12,20 +12,29 @@ use cells::cell::Record;
 use cells::reading::read;
 use std::fmt;
 
-// Beside its own reading a tip can lack a neighbour's.
+// Beside its own reading a tip can lack a neighbour's; and where the working out of its box is stopped, the tip that stopped it is told, by
+// its number where it is a neighbour.
 #[derive(Clone, Copy, PartialEq, Eq)]
 pub enum Lack {
     NothingGiven,
     Broken,
     NeighbourMissing,
     Uncalibrated,
+    NeighbourPastLimit(usize),
+    FactorOverZero,
+    NeighbourOverZero(usize),
 }
 
 impl Reason for Lack {
     ghost own = { own_lack };
 
     fn is_own(&self) -> bool {
-        *self != Lack::NeighbourMissing
+        match self {
+            Lack::NothingGiven | Lack::Broken | Lack::Uncalibrated | Lack::FactorOverZero => true,
+            Lack::NeighbourMissing | Lack::NeighbourPastLimit(_) | Lack::NeighbourOverZero(_) => {
+                false
+            }
+        }
     }
 }
 
@@ -33,12 +42,19 @@ impl fmt::Display for Lack {
     ghost output = { λ l. Some (lack_words l) };
 
     fn fmt<W: fmt::Write>(&self, f: &mut fmt::Formatter<W>) -> fmt::Result {
-        f.pad(match self {
-            Lack::NothingGiven => "no reading: the instrument gave nothing",
-            Lack::Broken => "no reading: its record is broken",
-            Lack::NeighbourMissing => "no pair: another reading of its box is missing",
-            Lack::Uncalibrated => "no pair: calibration or offset missing",
-        })
+        match self {
+            Lack::NothingGiven => f.write_str("no reading: the instrument gave nothing"),
+            Lack::Broken => f.write_str("no reading: its record is broken"),
+            Lack::NeighbourMissing => f.write_str("no pair: another reading of its box is missing"),
+            Lack::Uncalibrated => f.write_str("no pair: calibration, offset or factor missing"),
+            Lack::NeighbourPastLimit(tip) => {
+                write!(f, "no pair: a bound at tip {tip} is past the limit")
+            }
+            Lack::FactorOverZero => f.write_str("no pair: its factor has drifted over zero"),
+            Lack::NeighbourOverZero(tip) => {
+                write!(f, "no pair: the factor of tip {tip} is over zero")
+            }
+        }
     }
 }
 

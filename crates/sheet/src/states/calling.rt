@@ -1,24 +1,18 @@
 // The calls of a working sheet that take cells over as they are, or joined.
-ghost use Rattle.std.specs.Prelude.{◌≡◌, [], ◌∷◌, ◌<◌, ◌≤◌, true, false, IfOk, IfErr, MatchResult, slice_set, nat_lt};
-ghost use Rattle.sheet.specs.Answers.{working, drafted, calling, check_answer, call_answer, draft_after, empties_draft};
-ghost use Rattle.cells.specs.Worked.{sum_at};
-ghost use Rattle.sheet.specs.Calls.{sum, join, copy, permute};
-ghost use Rattle.sheet.specs.Checks.{granted, refused, check, first_refusal, column_named};
-ghost use Rattle.sheet.specs.Memory.{has_cells, has_both, column, cells_in, written_rows};
+ghost use Rattle.std.specs.Prelude.{◌≡◌, ◌<◌, true, false, IfOk, MatchResult};
+ghost use Rattle.sheet.specs.Answers.{working, drafted};
+ghost use Rattle.sheet.specs.Calls.{join, copy, permute};
+ghost use Rattle.sheet.specs.Checks.{granted, refused};
+ghost use Rattle.sheet.specs.Memory.{has_both, column, cells_in, written_rows};
 ghost use Rattle.sheet.specs.NewColumns.{new_column};
-ghost use Rattle.sheet.specs.Outcomes.{answer_of, answered_call, Calls, Drafts};
-ghost use Rattle.sheet.specs.Faults.{in_call};
-ghost use Rattle.sheet.specs.declared.refusal.CallName.TheVariants.{Sum};
-ghost use Rattle.sheet.specs.declared.refusal.Refusal.TheVariants.{WrongLength, NoSuchColumn, NoSuchRow};
+ghost use Rattle.sheet.specs.Outcomes.{answered_call, Calls, Drafts};
 
-use crate::memory::clear;
 use crate::new_columns::{Copied, Joined, Permuted};
 use crate::permutation::is_permutation;
-use crate::refusal::{CallName, Refusal, SheetFault};
+use crate::refusal::{CallName, Refusal};
 use crate::rows::write_rows;
 use crate::states::{Drafted, Refused, Working};
-use cells::cell::{Record, Terms};
-use cells::formulas::sum;
+use cells::cell::Record;
 use cells::rules::JoinRule;
 
 impl Working {

@@ -6,4 +6,4 @@ use Rattle.sheet.proofs.laws.cases_stand.Goals as goal
 
 pub returns : goal.returns
 unfolding least_quotient greatest_quotient rows_in_order call_answer
-returns c = (refl, (refl, (refl, (refl, (refl, (refl, (refl, (refl, (refl, (refl, (refl, (refl, (refl, (refl, (refl, (refl, (refl, (refl, (refl, (refl, (refl, c.cases_stand.ensures)))))))))))))))))))))
+returns c = (refl, (refl, (refl, (refl, (refl, (refl, (refl, (refl, (refl, (refl, (refl, (refl, (refl, (refl, (refl, (refl, (refl, (refl, (refl, (refl, (refl, (refl, (refl, (refl, (refl, (refl, (refl, (refl, c.cases_stand.ensures))))))))))))))))))))))))))))

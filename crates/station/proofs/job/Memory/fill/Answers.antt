@@ -1,49 +1,37 @@
-use Rattle.std.proofs.Common.{◌≡◌, ℕ, ◌∙◌, sym, ap, length, pos, Ok, rules, arith}
+use Rattle.std.proofs.Common.{◌≡◌, ℕ, ◌*◌, ◌<◌, List, [], length, get_or, inl, inr, ap, sym, subst, ◌∙◌, rules, arith, below_more}
 use Rattle.std.proofs.lemmas.List.{get_or_default}
-use Rattle.cells.specs.Cells.{blank}
-use Rattle.sheet.specs.Memory.{cells_in}
-use Rattle.station.specs.Boxes.{box_shape, worked_value, pair_at, dip_at}
-use Rattle.station.proofs.Sheets.{none_yet, nothing_set, all_set, one_more}
+use Rattle.station.specs.declared.line.Junction.{Junction}
+use Rattle.station.specs.Boxes.{Filled}
+use Rattle.station.specs.Counts.{box_sets, of_boxes}
+use Rattle.station.proofs.Counts.{boxes_more}
+use Rattle.station.proofs.Sheets.{filled_stays}
 use Rattle.station.proofs.job.Memory.fill.Goals as goal
 
-pub loop-row-init : goal.loop-row-init
-loop-row-init c = record {
-  worked = λ i h. c.requires.opened 0 i (omega arith) h ∙ sym (nothing_set i (pair_at c.args.worked.now i));
-  dips = λ i h. c.requires.opened 1 i (omega arith) h ∙ sym (nothing_set i (dip_at c.args.dips.now i));
-}
+abbrev past : Junction
+past = record { readings = []; offsets = []; calibration = []; factors = []; dips = [] }
 
-pub set-requires-clause-unset : goal.set-requires-clause-unset
-set-requires-clause-unset c =
-    let row : ℕ = c.loop-row.row in c.loop-row.invariant.worked row (omega arith) ∙ none_yet row (pair_at c.args.worked.now row)
-
-pub set-requires-in-loop-row-clause-unset : goal.set-requires-in-loop-row-clause-unset
-set-requires-in-loop-row-clause-unset c =
-    let row : ℕ = c.loop-row.row in
-    c.set.ensures.elsewhere 1 row (omega arith) (λ p. omega (arith, p.0)) ∙ (c.loop-row.invariant.dips row (omega arith) ∙ none_yet row (dip_at c.args.dips.now row))
-
-pub loop-row-preserved : goal.loop-row-preserved
-loop-row-preserved c =
-    let row : ℕ = c.loop-row.row in
-    let before = c.loop-row.self.cells in
-    let after = c.set-in-loop-row.new.self.cells in
-    let second = c.set-in-loop-row.ensures in
-    let size : length c.args.worked.now ≡ 3 = search rules in
-    let worked = ap worked_value (get_or_default c.args.worked.now row (Ok (record { lower = pos 0; upper = pos 0 })) (Ok blank) (omega arith)) in
+pub loop-nth-preserved : goal.loop-nth-preserved
+loop-nth-preserved c =
+    let dam : List Junction = c.args.dam.now in
+    let nth : ℕ = c.loop-nth.nth in
+    let before = c.loop-nth.self.cells in
+    let after = c.fill_box.new.self.cells in
+    let boxes : length dam ≡ 8 = search rules in
+    let P : ℕ → Type 0 = λ k. (j : Junction) → Filled after (k * 4) (get_or dam k j) in
+    let below : (k : ℕ) → k < nth → P k =
+    λ k b j. filled_stays before after (k * 4) (get_or dam k j) (λ i row h g r. c.fill_box.ensures.elsewhere i row (inl (omega (arith, b, g))) r) (c.loop-nth.invariant.filled k j b) in
+    let here : P nth = λ j.
+    let Q : Junction → Type 0 = λ b. Filled after (nth * 4) b in
+    subst Q (sym (get_or_default dam nth j past (omega (arith, boxes, c.loop-nth-test.true)))) c.fill_box.ensures.filled in
     record {
-      worked = one_more row (pair_at c.args.worked.now) (cells_in box_shape before 0) (cells_in box_shape after 0) c.loop-row.invariant.worked
-          (second.elsewhere 0 row (omega arith) (λ p. omega (arith, p.0)) ∙ (c.set.ensures.there ∙ (c.worked_cell.ensures ∙ worked)))
-          (λ i h other. second.elsewhere 0 i h (λ p. omega (arith, p.0)) ∙ c.set.ensures.elsewhere 0 i h (λ p. other p.1));
-      dips = one_more row (dip_at c.args.dips.now) (cells_in box_shape before 1) (cells_in box_shape after 1) c.loop-row.invariant.dips
-          (second.there ∙ c.dip_cell.ensures)
-          (λ i h other. second.elsewhere 1 i h (λ p. other p.1) ∙ c.set.ensures.elsewhere 1 i h (λ p. omega (arith, p.0)));
+      filled = λ k j h. below_more P nth below here k h j;
+      unset = λ i row h g r. c.fill_box.ensures.elsewhere i row (inr (omega (arith, h))) r ∙ c.loop-nth.invariant.unset i row (omega (arith, h)) g r;
+      calls = c.fill_box.ensures.calls ∙ (ap (box_sets (get_or dam nth past)) c.loop-nth.invariant.calls
+          ∙ sym (boxes_more box_sets dam nth (get_or dam nth past) c.args.self.now.calls (λ j. get_or_default dam nth j past (omega (arith, boxes, c.loop-nth-test.true)))));
     }
 
-pub returns-clause-worked : goal.returns-clause-worked
-returns-clause-worked c =
-    let three : c.loop-row.row ≡ 3 = omega arith in
-    λ row h. rw three at (c.loop-row.invariant.worked row h) ∙ all_set row (pair_at c.args.worked.now row) h
-
-pub returns-clause-dips : goal.returns-clause-dips
-returns-clause-dips c =
-    let three : c.loop-row.row ≡ 3 = omega arith in
-    λ row h. rw three at (c.loop-row.invariant.dips row h) ∙ all_set row (dip_at c.args.dips.now row) h
+pub returns-clause-calls : goal.returns-clause-calls
+returns-clause-calls c =
+    let boxes : length c.args.dam.now ≡ 8 = search rules in
+    let eight : c.loop-nth.nth ≡ 8 = omega (arith, boxes, c.loop-nth-test.false, c.loop-nth.auto.nth-end) in
+    c.loop-nth.invariant.calls ∙ ap (λ n. of_boxes box_sets c.args.dam.now n c.args.self.now.calls) eight

@@ -4,4 +4,4 @@ use Rattle.station.proofs.Sheets.{opened_empty}
 use Rattle.station.proofs.job.Memory.open.Goals as goal
 
 pub returns-clause-cells : goal.returns-clause-cells
-returns-clause-cells c = let b : c.open.new.cells ≡ blanks 15 = search rules in λ column row h g. rw b (opened_empty column row h g)
+returns-clause-cells c = let b : c.open-answer.new.cells ≡ blanks 96 = search rules in λ column row h g. rw b (opened_empty column row h g)
