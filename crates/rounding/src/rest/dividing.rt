@@ -1,5 +1,6 @@
 // One division in a direction, the limit of a bound, and a pair of sums rounded outward.
-ghost use Rattle.std.specs.Prelude.{◌≡◌, ◌^◌, ◌<◌, pos, ◌≢◌, unsigned_abs};
+ghost use Rattle.std.specs.Prelude.{◌≡◌, ◌^◌, ◌<◌, ◌/◌, ◌%◌, ◌==◌, pos, neg_ℤ, ◌≢◌, unsigned_abs, int_lt, not};
+ghost use mathlib.Core.Bool.{beq};
 ghost use Rattle.arithmetic.specs.Rounding.{floor, ceiling};
 ghost use Rattle.arithmetic.specs.Values.{lesser, greater};
 ghost use Rattle.rounding.specs.declared.direction.Direction.TheVariants.{Down};
@@ -14,25 +15,71 @@ use crate::rest::guard::Upward;
 // The limit M: no bound of a cell is beyond it in size.
 pub const LIMIT: i32 = 131_071;
 
-// The greatest whole number that is at most the quotient. `div_euclid` rounds down by a positive divisor.
-fn floor_of(value: Unrounded, by: Divisor) -> i64
-    ensures { result ≡ floor value.value by.value }
-{
-    if by.value < 0 {
-        (-value.value).div_euclid(-by.value)
-    } else {
-        value.value.div_euclid(by.value)
-    }
+// A quotient by its size, rounded towards zero, and whether that is exact. The processor divides sizes faster than signed numbers, and
+// where a quotient is wanted rounded both ways, both come from one division.
+#[derive(Clone, Copy)]
+struct Quotient {
+    value: Unrounded,
+    by: Divisor,
+    size: i64,
+    exact: bool,
+    ghost is_size: { size ≡ pos (unsigned_abs value.value / unsigned_abs by.value) },
+    ghost is_exact: { exact ≡ (unsigned_abs value.value % unsigned_abs by.value == 0) },
+    ghost small: { unsigned_abs size < 2 ^ 62 },
 }
 
-// The least whole number that is at least the quotient: the floor of the opposite, turned round.
-fn ceiling_of(value: Unrounded, by: Divisor) -> i64
-    ensures { result ≡ ceiling value.value by.value }
-{
-    let opposite = Unrounded {
-        value: -value.value,
-    };
-    -floor_of(opposite, by)
+impl Quotient {
+    fn of(value: Unrounded, by: Divisor) -> Quotient
+        ensures { (result.value ≡ value) × (result.by ≡ by) }
+    {
+        let (size, divisor) = (value.value.unsigned_abs(), by.value.unsigned_abs());
+        Quotient {
+            value,
+            by,
+            size: (size / divisor) as i64,
+            exact: size % divisor == 0,
+        }
+    }
+
+    // Whether one of the two numbers is below 0, and not the other.
+    fn signs_differ(self) -> bool
+        ensures { result ≡ not (beq (int_lt self.value.value (pos 0)) (int_lt self.by.value (pos 0))) }
+    {
+        (self.value.value < 0) != (self.by.value < 0)
+    }
+
+    fn opposite_size(self) -> i64
+        ensures is { result ≡ neg_ℤ self.size }
+        ensures small { unsigned_abs result < 2 ^ 62 }
+    {
+        -self.size
+    }
+
+    // The greatest whole number that is at most the quotient.
+    fn floor(self) -> i64
+        ensures { result ≡ floor self.value.value self.by.value }
+    {
+        if !self.signs_differ() {
+            self.size
+        } else if self.exact {
+            self.opposite_size()
+        } else {
+            self.opposite_size() - 1
+        }
+    }
+
+    // The least whole number that is at least the quotient.
+    fn ceiling(self) -> i64
+        ensures { result ≡ ceiling self.value.value self.by.value }
+    {
+        if self.signs_differ() {
+            self.opposite_size()
+        } else if self.exact {
+            self.size
+        } else {
+            self.size + 1
+        }
+    }
 }
 
 impl Direction {
@@ -40,9 +87,10 @@ impl Direction {
     pub fn quotient(self, value: Unrounded, by: Divisor) -> i64
         ensures { result ≡ rounded_in self value.value by.value }
     {
+        let quotient = Quotient::of(value, by);
         match self {
-            Direction::Down => floor_of(value, by),
-            Direction::Up => ceiling_of(value, by),
+            Direction::Down => quotient.floor(),
+            Direction::Up => quotient.ceiling(),
         }
     }
 }

@@ -1,0 +1,13 @@
+use Rattle.std.proofs.Common.{rules}
+use Rattle.rounding.proofs.Sizes.{floor_exact, floor_under}
+use Rattle.rounding.proofs.rest.dividing.Quotient.floor.Goals as goal
+
+pub returns-then-self : goal.returns-then-self
+returns-then-self c =
+    let q = c.args.self in let e = floor_exact q.value.value q.by.value q.by.nonzero in
+    search rules
+
+pub returns-else-self : goal.returns-else-self
+returns-else-self c =
+    let q = c.args.self in let e = floor_under q.value.value q.by.value q.by.nonzero in
+    search rules
