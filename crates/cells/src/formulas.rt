@@ -1,7 +1,7 @@
 // The cell formulas of dot, sum and blend over runs of records: what the cell at a row of a column becomes.
 // Every operand counts: an empty one empties the cell, even under a factor of zero. How many terms there are is told beside the
 // runs, since runs may be longer; a place past a run's end is empty.
-ghost use Rattle.std.specs.Prelude.{◌≡◌};
+ghost use Rattle.std.specs.Prelude.{◌≡◌, ⊤};
 ghost use Rattle.arithmetic.specs.Values.{total};
 ghost use Rattle.cells.specs.Cells.{cell_value, total_value, sum_value, cell_at};
 ghost use Rattle.cells.specs.Formulas.{sum_of_products, weighted_sum};
@@ -25,6 +25,8 @@ impl<'a, 'b> Operands for Runs<'a, 'b> {
     ghost lefts = { λ s. cell_at s.xs.now };
 
     ghost rights = { λ s. cell_at s.ys.now };
+
+    ghost has = { λ _ _. ⊤ };
 
     fn left(&self, place: usize) -> Cell {
         cell_at(self.xs, place)

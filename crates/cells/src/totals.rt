@@ -1,5 +1,5 @@
 // Sums of products over any operands, and the sums that the formulas divide.
-ghost use Rattle.std.specs.Prelude.{◌≡◌, ℕ, ◌+◌, ◌-◌};
+ghost use Rattle.std.specs.Prelude.{◌≡◌, ℕ, ◌+◌, ◌-◌, ◌<◌, ◌≤◌};
 ghost use Rattle.arithmetic.specs.Values.{Value, times, plus, Small};
 ghost use Rattle.cells.specs.Cells.{cell_value, total_value, sum_value};
 ghost use Rattle.cells.specs.Formulas.{sum_of_products, weighted_sum, blended_sum, remainder_sum};
@@ -14,15 +14,21 @@ pub trait Operands {
 
     ghost rights: { Self → ℕ → Value };
 
+    // the places that are asked for
+    ghost has: { Self → ℕ → Type 0 };
+
     fn left(&self, place: usize) -> Cell
+        requires { has self.now place }
         ensures { cell_value result ≡ lefts self.now place };
 
     fn right(&self, place: usize) -> Cell
+        requires { has self.now place }
         ensures { cell_value result ≡ rights self.now place };
 }
 
 // Σ x_j·y_j over the places, unrounded. At most 1,024 products are added, so no word overflows.
 pub fn sum_of_products<O: Operands>(operands: &O, places: Places) -> Total
+    requires { (place : ℕ) → places.from ≤ place → place < places.to → O.Operands.has operands.now place }
     ensures { total_value result ≡ sum_of_products (O.Operands.lefts operands.now) (O.Operands.rights operands.now) places.from (places.to - places.from) }
 {
     let mut sofar = Totals::ZERO;

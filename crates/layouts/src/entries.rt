@@ -1,11 +1,9 @@
-// What the layouts share of entries: the cell [0, 0], which cells are filled, and which places are on a side.
+// What the layouts share of entries: the cell [0, 0], and which cells are filled.
 ghost use Rattle.std.specs.Prelude.{◌≡◌, true};
 ghost use Rattle.arithmetic.specs.Values.{bounds, zeros};
 ghost use Rattle.cells.specs.Cells.{cell_value, read_as};
 ghost use Rattle.layouts.specs.Filled.{is_filled};
-ghost use Rattle.layouts.specs.Sides.{on_side};
 
-use crate::side::Side;
 use cells::cell::{Cell, Interval, Record};
 
 pub(crate) fn zero() -> Cell
@@ -29,15 +27,5 @@ pub(crate) fn filled_bounds(record: Record) -> Interval
     Interval {
         lower: record.lower,
         upper: record.upper,
-    }
-}
-
-// Whether a place is on the side or on the diagonal.
-pub(crate) fn is_on(side: Side, row: usize, column: usize) -> bool
-    ensures { result ≡ on_side side row column }
-{
-    match side {
-        Side::Lower => column <= row,
-        Side::Upper => row <= column,
     }
 }

@@ -33,14 +33,11 @@ impl<'a> FilledPart<'a> {
         }
     }
 
-    // The cell at any place of the run.
+    // The cell at a place of the part.
     pub(crate) fn cell(self, place: usize) -> Cell
+        requires { (self.places.from ≤ place) × (place < self.places.to) }
         ensures { cell_value result ≡ cell_at self.entry.run.now place }
     {
-        if self.places.from <= place && place < self.places.to {
-            Some(filled_bounds(self.run[place]))
-        } else {
-            cell_at(self.run, place)
-        }
+        Some(filled_bounds(self.run[place]))
     }
 }

@@ -1,6 +1,6 @@
 // A row of a layout beside a part of a run, as the operands of a sum of products. Every operand counts, also one that stands under
 // a structural zero: here none is empty, and so zeros can be skipped.
-ghost use Rattle.std.specs.Prelude.{◌≡◌, ◌-◌, ◌≤◌};
+ghost use Rattle.std.specs.Prelude.{◌≡◌, ◌-◌, ◌<◌, ◌≤◌};
 ghost use Rattle.cells.specs.Cells.{total_value, cell_at};
 ghost use Rattle.cells.specs.Formulas.{sum_of_products};
 
@@ -21,6 +21,8 @@ impl<'a, 'b, L: Layout> Operands for RowTimes<'a, 'b, L> {
     ghost lefts = { λ s. (L.Layout.meaning s.layout.now).entry s.row };
 
     ghost rights = { λ s. cell_at s.xs.run.now };
+
+    ghost has = { λ s place. (s.xs.places.from ≤ place) × (place < s.xs.places.to) };
 
     fn left(&self, place: usize) -> Cell {
         self.layout.entry(self.row, place)

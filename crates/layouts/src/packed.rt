@@ -1,8 +1,9 @@
 // Packed storage: the columns of one triangle, one after the other with no gaps.
 ghost use Rattle.std.specs.Prelude.{◌≡◌, ◌<◌, ◌≤◌};
+ghost use Rattle.layouts.specs.declared.side.Side.TheVariants.{Lower, Upper};
 ghost use Rattle.layouts.specs.Stored.{packed as stored, packed_fit, packed_place, packed_unfit, packed_sound};
 
-use crate::entries::{is_on, zero};
+use crate::entries::zero;
 use crate::figures::Figures;
 use crate::layout::{Layout, Triangular};
 use crate::lines::{half, whole};
@@ -19,16 +20,22 @@ pub struct Packed<'a> {
     pub n: usize,
 }
 
-fn place(side: Side, n: usize, row: usize, column: usize) -> usize
+fn lower_place(n: usize, row: usize, column: usize) -> usize
     requires small { n ≤ 1024 }
     requires row { row < n }
     requires column { column < n }
-    ensures { result ≡ packed_place side n row column }
+    ensures { result ≡ packed_place Lower n row column }
 {
-    match side {
-        Side::Lower => row + column * (2 * n - column - 1) / 2,
-        Side::Upper => row + column * (column + 1) / 2,
-    }
+    row + column * (2 * n - column - 1) / 2
+}
+
+fn upper_place(n: usize, row: usize, column: usize) -> usize
+    requires small { n ≤ 1024 }
+    requires row { row < n }
+    requires column { column < n }
+    ensures { result ≡ packed_place Upper n row column }
+{
+    row + column * (column + 1) / 2
 }
 
 impl Figures for Packed<'_> {
@@ -59,10 +66,10 @@ impl Layout for Packed<'_> {
             return None;
         }
         if row < self.n && column < self.n {
-            if is_on(self.side, row, column) {
-                read(self.run[place(self.side, self.n, row, column)])
-            } else {
-                zero()
+            match self.side {
+                Side::Lower if column <= row => read(self.run[lower_place(self.n, row, column)]),
+                Side::Upper if row <= column => read(self.run[upper_place(self.n, row, column)]),
+                _ => zero(),
             }
         } else {
             None

@@ -3,7 +3,7 @@ ghost use Rattle.std.specs.Prelude.{◌≡◌, ◌<◌, ◌≤◌, min, max};
 ghost use Rattle.layouts.specs.Layers.{triangle, triangle_sound};
 ghost use Rattle.layouts.specs.Spans.{half_from, half_to};
 
-use crate::entries::{is_on, zero};
+use crate::entries::zero;
 use crate::layout::{Layout, Triangular};
 use crate::lines::{half, overlap, smaller, whole};
 use crate::side::Side;
@@ -42,13 +42,15 @@ impl<L: Layout> Layout for Triangle<L> {
         smaller(&self.below)
     }
 
+    // asked at each place of a sum, and twice as slow where it is a call by itself: hence the hint
+    #[inline(always)]
     fn entry(&self, row: usize, column: usize) -> Cell {
         let n = smaller(&self.below);
         if row < n && column < n {
-            if is_on(self.side, row, column) {
-                self.below.entry(row, column)
-            } else {
-                zero()
+            match self.side {
+                Side::Lower if column <= row => self.below.entry(row, column),
+                Side::Upper if row <= column => self.below.entry(row, column),
+                _ => zero(),
             }
         } else {
             None

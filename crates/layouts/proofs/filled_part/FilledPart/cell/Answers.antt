@@ -9,5 +9,5 @@ use Rattle.layouts.proofs.filled_part.FilledPart.cell.Goals as goal
 pub filled_bounds-requires : goal.filled_bounds-requires
 filled_bounds-requires c =
     let s = c.args.self in let run = s.run.now in let k = c.args.place in
-    let filled = s.filled k c.if-self-place.true c.if-place-self.true in
+    let filled = s.filled k c.requires.0 c.requires.1 in
     ap (λ (r : Record). is_filled (read_as r)) (get_or_default run k _ blank (filled_here run k filled)) ∙ filled
