@@ -8,20 +8,6 @@ use cells::cell::Record;
 use cells::reading::cell_at;
 use cells::rules::JoinRule;
 
-// A column as it reads.
-#[derive(Clone, Copy)]
-pub(crate) struct Copied<'a> {
-    pub(crate) column: &'a [Record],
-}
-
-impl Rows for Copied<'_> {
-    ghost new = { λ c. cell_at c.column.now };
-
-    fn record(&self, row: usize) -> Record {
-        Record::from(cell_at(self.column, row))
-    }
-}
-
 // Two columns joined by a rule, row by row.
 #[derive(Clone, Copy)]
 pub(crate) struct Joined<'a, R> {

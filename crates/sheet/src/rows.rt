@@ -1,10 +1,11 @@
 // The loop that writes a new column to the draft.
 ghost use Rattle.std.specs.Prelude.{◌≡◌, ℕ, length};
 ghost use Rattle.arithmetic.specs.Values.{Value};
-ghost use Rattle.cells.specs.Cells.{written};
+ghost use Rattle.cells.specs.Cells.{written, cell_at};
 ghost use Rattle.sheet.specs.Memory.{written_rows};
 
 use cells::cell::Record;
+use cells::reading::read;
 
 // The cells of a new column, each worked out by itself. It is a trait and no closure, since its ghost member names the cells, and a
 // contract can then be an equation.
@@ -21,5 +22,15 @@ pub(crate) fn write_rows<R: Rows>(rows: &R, draft: &mut [Record])
 {
     for (row, place) in draft.iter_mut().enumerate() {
         *place = rows.record(row);
+    }
+}
+
+// Writes a column as it reads. It is as long as the draft, so that no row is asked whether it is there.
+pub(crate) fn write_column(column: &[Record], draft: &mut [Record])
+    requires { length column.now ≡ length draft.old }
+    ensures { draft.new ≡ written_rows (length draft.old) (cell_at column.now) }
+{
+    for (row, place) in draft.iter_mut().enumerate() {
+        *place = Record::from(read(column[row]));
     }
 }

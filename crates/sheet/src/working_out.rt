@@ -15,10 +15,9 @@ ghost use Rattle.sheet.specs.declared.order.WorkingOrder.{WorkingOrder};
 ghost use Rattle.cells.specs.declared.cell.Record.{Record};
 
 use crate::memory::clear;
-use crate::new_columns::Copied;
 use crate::order::WorkingOrder;
 use crate::refusal::{CallName, Refusal, SheetFault};
-use crate::rows::write_rows;
+use crate::rows::write_column;
 use cells::cell::Record;
 use cells::fault::CellFault;
 use rounding::rest::Rounding;
@@ -99,8 +98,7 @@ pub(crate) fn work<F: RowFormula>(
     ensures answer { answer_of result ≡ first_refusal (limits call k (F.RowFormula.new formula.now) (rows_of (F.RowFormula.rows formula.now))) granted }
     ensures left { MatchResult result (λ u. draft.new ≡ written_rows (length draft.old) (F.RowFormula.new formula.now)) (λ r. (draft.new ≡ blanks (length draft.old)) × (empties_draft r ≡ true)) }
 {
-    let column = formula.column();
-    write_rows(&Copied { column }, draft);
+    write_column(formula.column(), draft);
     let came = work_in_call(call, k, formula, draft);
     if came.is_err() {
         clear(draft);

@@ -7,10 +7,10 @@ ghost use Rattle.sheet.specs.Memory.{has_both, column, cells_in, written_rows};
 ghost use Rattle.sheet.specs.NewColumns.{new_column};
 ghost use Rattle.sheet.specs.Outcomes.{answered_call, Calls, Drafts};
 
-use crate::new_columns::{Copied, Joined, Permuted};
+use crate::new_columns::{Joined, Permuted};
 use crate::permutation::is_permutation;
 use crate::refusal::{CallName, Refusal};
-use crate::rows::write_rows;
+use crate::rows::{write_column, write_rows};
 use crate::states::{Drafted, Refused, Working};
 use cells::cell::Record;
 use cells::rules::JoinRule;
@@ -81,10 +81,7 @@ impl Working {
         ensures { Drafts self.now.shape (copy k x) cells.now draft.old result draft.new }
     {
         self.check_columns(CallName::Copy, k, x, cells, draft)?;
-        let copied = Copied {
-            column: self.shape.column(cells, x),
-        };
-        write_rows(&copied, draft);
+        write_column(self.shape.column(cells, x), draft);
         Ok(())
     }
 
