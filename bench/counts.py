@@ -6,14 +6,14 @@ import re, subprocess, sys
 from runs import SIZES, places
 
 program = sys.argv[1]
-whole = program == 'calls.run'
+whole = program == 'calls'
 HALF = 8
 
 
 def counted(n, job, rounds):
     function = 'void by_boost::rows<*' if job.startswith('boost') else job
     words = [str(rounds)] if whole else []
-    run = subprocess.run(['valgrind', '--tool=callgrind', '--callgrind-out-file=/dev/null', f'--toggle-collect={function}', f'./{program}', str(n), 'once', job, *words, str(HALF)], capture_output=True, text=True)
+    run = subprocess.run(['valgrind', '--tool=callgrind', '--callgrind-out-file=/dev/null', f'--toggle-collect={function}', f'./{program}0.run', str(n), 'once', job, *words, str(HALF)], capture_output=True, text=True)
     found = re.search(r'Collected : (\d+)', run.stderr)
     if run.returncode or not found: sys.exit(f'counts.py: {job}: {run.stderr}')
     return int(found[1])
@@ -22,7 +22,7 @@ def counted(n, job, rounds):
 def instructions(n, job): return counted(n, job, 2) - counted(n, job, 1) if whole else counted(n, job, 0)
 
 
-listed = subprocess.run([f'./{program}', '12', '1', str(HALF)], capture_output=True, text=True).stdout.splitlines()
+listed = subprocess.run([f'./{program}0.run', '12', '1', str(HALF)], capture_output=True, text=True).stdout.splitlines()
 jobs = [line.split()[:2] for line in listed if not (whole and ' boost_' in line)]
 jobs.sort(key=lambda words: [group for group, job in jobs].index(words[0]))
 for n in map(int, sys.argv[2:] or SIZES):

@@ -6,10 +6,10 @@ SIZES = (12, 64, 1024)
 ROUNDS = {12: 41, 64: 31, 1024: 15}
 
 
-# {job: time in ns} of one run, from a copy of the program that is made for it: where the program lies in memory changes the time of
-# Boost's calls that set the rounding mode, so one copy would give one chance of many.
+# {job: time in ns} of one run, and {job: group}. The four links of a program take turns. Each run has a copy of its own: where the
+# program lies in memory changes the time of Boost's calls that set the rounding mode.
 def run(program, n, half, number):
-    copy = shutil.copy(f'./{program}', f'./{program}{number}')
+    copy = shutil.copy(f'./{program}{number % 4}.run', f'./{program}.run{number}')
     try:
         out = subprocess.run([copy, str(n), str(ROUNDS[n]), str(half)], capture_output=True, text=True)
     finally:
