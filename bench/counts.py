@@ -1,23 +1,34 @@
 #!/usr/bin/env python3
-# Instructions of one call, by callgrind, for each place of the matrix that a kernel reads. They do not depend on the load.
-# usage: counts.py N HALF-BAND [JOB..]
+# Instructions by callgrind, which do not depend on the load: of the sums alone those of one kernel; of whole calls those of one round,
+# which is the call and its withdraw (what two rounds take more than one). For each place of the matrix, and beside C row by row.
+# usage: counts.py PROGRAM [N..]
 import re, subprocess, sys
+from runs import SIZES, places
 
-n, half, chosen = int(sys.argv[1]), int(sys.argv[2]), sys.argv[3:]
-half = min(half, n - 1)
-PLACES = {
-    'dense': n * n,
-    'transposed': n * n,
-    'symmetric': n * n,
-    'packed': n * (n + 1) // 2,
-    'band': sum(min(n, j + half + 1) - max(0, j - half) for j in range(n)),
-}
-JOBS = [f'{who}_{layout}_{order}' for layout in PLACES for who in ('plain', 'bepyndo') for order in ('by_rows', 'by_columns')]
-JOBS += [f'boost_{layout}_{mode}' for layout in ('dense', 'band', 'packed') for mode in ('mode_each', 'mode_once')]
-print(f'n = {n}, half band {half}: instructions a place, and of the whole call')
-for job in chosen or JOBS:
+program = sys.argv[1]
+whole = program == 'calls.run'
+HALF = 8
+
+
+def counted(n, job, rounds):
     function = 'void by_boost::rows<*' if job.startswith('boost') else job
-    run = subprocess.run(['valgrind', '--tool=callgrind', '--callgrind-out-file=/dev/null', f'--toggle-collect={function}', './driver', str(n), 'once', job, str(half)], capture_output=True, text=True)
-    counted = re.search(r'Collected : (\d+)', run.stderr)
-    if run.returncode or not counted: sys.exit(f'counts.py: {job}: {run.stderr}')
-    print(f'{job:34} {int(counted[1]) / PLACES[job.split("_")[1]]:8.1f} {int(counted[1]):12}')
+    words = [str(rounds)] if whole else []
+    run = subprocess.run(['valgrind', '--tool=callgrind', '--callgrind-out-file=/dev/null', f'--toggle-collect={function}', f'./{program}', str(n), 'once', job, *words, str(HALF)], capture_output=True, text=True)
+    found = re.search(r'Collected : (\d+)', run.stderr)
+    if run.returncode or not found: sys.exit(f'counts.py: {job}: {run.stderr}')
+    return int(found[1])
+
+
+def instructions(n, job): return counted(n, job, 2) - counted(n, job, 1) if whole else counted(n, job, 0)
+
+
+listed = subprocess.run([f'./{program}', '12', '1', str(HALF)], capture_output=True, text=True).stdout.splitlines()
+jobs = [line.split()[:2] for line in listed if not (whole and ' boost_' in line)]
+jobs.sort(key=lambda words: [group for group, job in jobs].index(words[0]))
+for n in map(int, sys.argv[2:] or SIZES):
+    print(f'n = {n}, half band {HALF}: instructions, for each place, and as a ratio to C row by row')
+    base = {}
+    for group, job in jobs:
+        total = instructions(n, job)
+        base.setdefault(group, total)
+        print(f'{job:36} {total:12} {total / places(job, n, HALF):8.1f} {total / base[group]:6.2f}')

@@ -1,54 +1,33 @@
 #!/usr/bin/env python3
-# Medians over several runs of the driver, each of which has medians over its rounds: the ratio of each kernel to the row loop
-# in C, with the least and the greatest that a run gave, and the ratio of Rattle to the better loop in C.
-# usage: table.py RUNS
-import os, shutil, subprocess, sys
+# Medians over several runs of a program, each of which has medians over its rounds: the ratio of each job to the first of its group,
+# which is C row by row, with the least and the greatest that a run gave; and how the time of a band grows.
+# usage: table.py PROGRAM RUNS
+import sys
 from statistics import median
+from runs import SIZES, load, places, runs
 
-RUNS = int(sys.argv[1])
-ROUNDS = {12: 41, 64: 31, 1024: 15}
-SIZES = (12, 64, 1024)
-
-
-# {job: time in ns} of one run, from a copy of the program that is made for it: where the program lies in memory changes the
-# time of Boost's calls that set the rounding mode, so one copy would give one chance of many.
-def run(n, half, number):
-    copy = shutil.copy('./driver', f'./driver.run{number}')
-    try:
-        out = subprocess.run([copy, str(n), str(ROUNDS[n]), str(half)], capture_output=True, text=True)
-    finally:
-        os.remove(copy)
-    if out.returncode: sys.exit(f'table.py: the driver failed or answers differ\n{out.stdout}{out.stderr}')
-    return {words[1]: float(words[2]) for words in map(str.split, out.stdout.splitlines())}
-
-
-def runs(n, half): return [run(n, half, k) for k in range(RUNS)]
-
-
-def load(): return 'load ' + ' '.join(f'{x:.1f}' for x in os.getloadavg())
-
-
-print(f'{RUNS} runs; {load()}')
-times = {n: runs(n, 8) for n in SIZES}
-print(f'{"":34}' + ''.join(f'{f"n = {n}":>22}' for n in SIZES))
-for layout in ('dense', 'band', 'packed', 'symmetric', 'transposed'):
-    base = f'plain_{layout}_by_rows'
-    for job in (j for j in times[12][0] if j.split('_')[1] == layout):
+program, count = sys.argv[1], int(sys.argv[2])
+print(f'{count} runs; {load()}')
+times, groups = {}, {}
+for n in SIZES: times[n], groups = runs(program, n, 8, count)
+print(f'{"":36}' + ''.join(f'{f"n = {n}":>22}' for n in SIZES))
+for group in dict.fromkeys(groups.values()):
+    jobs = [job for job in groups if groups[job] == group]
+    for job in jobs:
         cells = []
         for n in SIZES:
-            ratios = [t[job] / t[base] for t in times[n]]
+            ratios = [t[job] / t[jobs[0]] for t in times[n]]
             cells.append(f'{median(ratios):8.2f} ({min(ratios):.2f}-{max(ratios):.2f})'.rjust(22))
-        print(f'{job:34}' + ''.join(cells))
-    best = [median(t[f'bepyndo_{layout}_by_columns'] / min(t[base], t[f'plain_{layout}_by_columns']) for t in times[n]) for n in SIZES]
-    print(f'{"  by columns, to the better C":34}' + ''.join(f'{b:8.2f}'.rjust(22) for b in best))
+        print(f'{job:36}' + ''.join(cells))
 
-print('\nband, by columns: ns a call, and ns for each place in the band')
-grown = {(1024, k): runs(1024, k) for k in (2, 32)}
+print('\na band: ns of a call, and ns for each place in the band')
+POINTS = ((64, 8), (1024, 2), (1024, 8), (1024, 32))
+grown = {(1024, half): runs(program, 1024, half, count)[0] for half in (2, 32)}
 grown[(1024, 8)], grown[(64, 8)] = times[1024], times[64]
-for n, k in ((64, 8), (1024, 2), (1024, 8), (1024, 32)):
-    places = sum(min(n, j + k + 1) - max(0, j - k) for j in range(n))
-    line = [median(t[f'{who}_band_by_columns'] for t in grown[(n, k)]) for who in ('bepyndo', 'plain')]
-    print(f'n = {n:4}, half band {k:2}: {places:6} places   Rattle {line[0]:9.0f} {line[0] / places:6.2f}   C {line[1]:9.0f} {line[1] / places:6.2f}')
-time = {key: median(t['bepyndo_band_by_columns'] for t in grown[key]) for key in grown}
-print(f'from n = 64 to n = 1024, sixteen times the rows: {time[(1024, 8)] / time[(64, 8)]:.1f} times as long; the square would be 256')
+for job in (j for j in groups if 'band' in j and not j.startswith('boost')):
+    time = {point: median(t[job] for t in grown[point]) for point in POINTS}
+    for n, half in POINTS:
+        there = places(job, n, half)
+        print(f'{job:36} n = {n:4}, half band {half:2}: {there:6} places {time[(n, half)]:9.0f} {time[(n, half)] / there:6.2f}')
+    print(f'{"":36} from n = 64 to n = 1024, sixteen times the rows: {time[(1024, 8)] / time[(64, 8)]:.1f} times as long; the square would be 256')
 print(load())
