@@ -24,7 +24,8 @@ def instructions(n, job): return counted(n, job, 2) - counted(n, job, 1) if whol
 
 listed = subprocess.run([f'./{program}0.run', '12', '1', str(HALF)], capture_output=True, text=True).stdout.splitlines()
 jobs = [line.split()[:2] for line in listed if not (whole and ' boost_' in line)]
-jobs.sort(key=lambda words: [group for group, job in jobs].index(words[0]))
+order = list(dict.fromkeys(group for group, job in jobs))
+jobs.sort(key=lambda words: order.index(words[0]))
 for n in map(int, sys.argv[2:] or SIZES):
     print(f'n = {n}, half band {HALF}: instructions, for each place, and as a ratio to C row by row')
     base = {}
