@@ -1,5 +1,4 @@
 // The calls that the benchmark times, with their operands.
-ghost use Rattle.std.specs.Prelude.{◌≡◌};
 ghost use Rattle.layouts.specs.Matrix.{Sound};
 ghost use Rattle.kernels.specs.Soundness.{sound_prop};
 ghost use Rattle.kernels.specs.Whole.{shape_of, dot_of, product_of, solve_of, WorksOver};
