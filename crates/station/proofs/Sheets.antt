@@ -100,9 +100,6 @@ drafted new row h c = ap read_as (get_or-map-range_with_len (λ j. written (new 
 pub none_yet : (row : ℕ) (v : Value) → cond (nat_lt row row) v empty ≡ empty
 none_yet row v = let t : nat_lt row row ≡ false = grind (arith, nat_tests) in rw t refl
 
-pub nothing_set : (row : ℕ) (v : Value) → cond (nat_lt row 0) v empty ≡ empty
-nothing_set row v = let t : nat_lt row 0 ≡ false = grind (arith, nat_tests) in rw t refl
-
 pub all_set : (row : ℕ) (v : Value) → row < 3 → cond (nat_lt row 3) v empty ≡ v
 all_set row v h = let t : nat_lt row 3 ≡ true = grind (arith, nat_tests) in rw t refl
 

@@ -113,10 +113,6 @@ row_of_box j =
 
 -- ---- a box that is not stopped
 
-pub bound_none : (o : Option CellFault) → stops_at_bound o ≡ None → o ≡ None
-bound_none None e = refl
-bound_none (Some f) e = cc
-
 pub zero_none : (o : Option ℕ) → stops_at_zero o ≡ None → o ≡ None
 zero_none None e = refl
 zero_none (Some row) e = cc
