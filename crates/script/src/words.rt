@@ -1,0 +1,117 @@
+// The words of a line, one space between two.
+use crate::numbers;
+use cells::cell::Record;
+use layouts::side::Side;
+use std::alloc::{AllocError, Global};
+
+// What is left of a line: none once its last word was taken.
+#[derive(Clone, Copy)]
+pub struct Words<'a> {
+    rest: Option<&'a [u8]>,
+}
+
+impl<'a> Words<'a> {
+    pub fn of(line: &'a [u8]) -> Words<'a> {
+        Words { rest: Some(line) }
+    }
+
+    // The next word. Where two spaces stand together, or one at an end of the line, it is empty, and no word of the format is.
+    pub fn word(&mut self) -> Option<&'a [u8]> {
+        let rest = self.rest?;
+        match rest.iter().position(|b| *b == b' ') {
+            Some(at) => {
+                self.rest = Some(&rest[at + 1..]);
+                Some(&rest[..at])
+            }
+            None => {
+                self.rest = None;
+                Some(rest)
+            }
+        }
+    }
+
+    pub fn count(&mut self) -> Option<usize> {
+        numbers::count(self.word()?)
+    }
+
+    pub fn size(&mut self) -> Option<i64> {
+        numbers::size(self.word()?)
+    }
+
+    pub fn cell(&mut self) -> Option<Record> {
+        numbers::cell(self.word()?)
+    }
+
+    pub fn name(&mut self) -> Option<&'a [u8]> {
+        let word = self.word()?;
+        if numbers::is_name(word) {
+            Some(word)
+        } else {
+            None
+        }
+    }
+
+    pub fn side(&mut self) -> Option<Side> {
+        match self.word()? {
+            b"lower" => Some(Side::Lower),
+            b"upper" => Some(Side::Upper),
+            _ => None,
+        }
+    }
+
+    // All words that are left, if each of them is a cell.
+    pub fn cells(&mut self) -> Option<Words<'a>> {
+        let words = *self;
+        if let Some(rest) = self.rest.take() {
+            for word in rest.split(|b| *b == b' ') {
+                numbers::cell(word)?;
+            }
+        }
+        Some(words)
+    }
+
+    // All words that are left, if each of them is a count.
+    pub fn counts(&mut self) -> Option<Words<'a>> {
+        let words = *self;
+        if let Some(rest) = self.rest.take() {
+            for word in rest.split(|b| *b == b' ') {
+                numbers::count(word)?;
+            }
+        }
+        Some(words)
+    }
+
+    // The cells of words that are cells.
+    pub fn to_cells(self, heap: Global) -> Result<Vec<Record>, AllocError> {
+        let mut cells = Vec::new(heap);
+        if let Some(rest) = self.rest {
+            for word in rest.split(|b| *b == b' ') {
+                if let Some(cell) = numbers::cell(word) {
+                    cells.push(cell)?;
+                }
+            }
+        }
+        Ok(cells)
+    }
+
+    // The counts of words that are counts.
+    pub fn to_counts(self, heap: Global) -> Result<Vec<usize>, AllocError> {
+        let mut counts = Vec::new(heap);
+        if let Some(rest) = self.rest {
+            for word in rest.split(|b| *b == b' ') {
+                if let Some(count) = numbers::count(word) {
+                    counts.push(count)?;
+                }
+            }
+        }
+        Ok(counts)
+    }
+
+    // That no word is left.
+    pub fn end(self) -> Option<()> {
+        match self.rest {
+            None => Some(()),
+            Some(_) => None,
+        }
+    }
+}

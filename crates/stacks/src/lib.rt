@@ -1,0 +1,7 @@
+// Layouts that are chosen while a program runs: a storage of any of the three schemes, under up to four layers. They mean what the
+// layouts of the library mean that they are made of, and ask these for every answer.
+#![tactic(auto)]
+
+pub mod layered;
+pub mod stack;
+pub mod storage;
