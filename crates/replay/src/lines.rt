@@ -35,7 +35,11 @@ fn lengths(
 }
 
 // What a matrix line makes, with its answer; none where it is not taken.
-fn made(heap: Global, matrix: Matrix<'_>, names: &Names) -> Result<Option<(Bound, Answer)>, AllocError> {
+fn made(
+    heap: Global,
+    matrix: Matrix<'_>,
+    names: &Names,
+) -> Result<Option<(Bound, Answer)>, AllocError> {
     match matrix {
         Matrix::Stored { scheme, run } => {
             let run = run.to_cells(heap)?;
@@ -54,11 +58,17 @@ fn made(heap: Global, matrix: Matrix<'_>, names: &Names) -> Result<Option<(Bound
         },
         Matrix::Symmetric { side, other } => match names.get(other) {
             None => Ok(None),
-            Some(below) => Ok(Some((below.under(heap, Layer::Symmetric(side), None)?, Answer::Granted))),
+            Some(below) => Ok(Some((
+                below.under(heap, Layer::Symmetric(side), None)?,
+                Answer::Granted,
+            ))),
         },
         Matrix::Triangle { side, other } => match names.get(other) {
             None => Ok(None),
-            Some(below) => Ok(Some((below.under(heap, Layer::Triangle(side), Some(side))?, Answer::Granted))),
+            Some(below) => Ok(Some((
+                below.under(heap, Layer::Triangle(side), Some(side))?,
+                Answer::Granted,
+            ))),
         },
         Matrix::Unit { unit, other } => match names.get(other) {
             None => Ok(None),
@@ -76,14 +86,22 @@ fn made(heap: Global, matrix: Matrix<'_>, names: &Names) -> Result<Option<(Bound
                         Ok(()) => Answer::Granted,
                         Err(_) => Answer::Unfit,
                     };
-                    Ok(Some((below.under(heap, Layer::Unit(Ones { side, unit }), Some(side))?, answer)))
+                    Ok(Some((
+                        below.under(heap, Layer::Unit(Ones { side, unit }), Some(side))?,
+                        answer,
+                    )))
                 }
             },
         },
     }
 }
 
-fn bind(heap: Global, name: &[u8], matrix: Matrix<'_>, names: &mut Names) -> Result<Answer, AllocError> {
+fn bind(
+    heap: Global,
+    name: &[u8],
+    matrix: Matrix<'_>,
+    names: &mut Names,
+) -> Result<Answer, AllocError> {
     match made(heap, matrix, names)? {
         None => Ok(Answer::NotTaken),
         Some((bound, answer)) => {

@@ -3,9 +3,9 @@
 #![tactic(auto)]
 
 mod answer;
+mod lines;
 mod memory;
 mod names;
-mod lines;
 mod stage;
 
 use std::io::Read;

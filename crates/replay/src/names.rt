@@ -46,7 +46,12 @@ impl Bound {
     }
 
     // A layer over this layout, which is triangular of this side, if of any.
-    pub fn under(&self, heap: Global, layer: Layer, side: Option<Side>) -> Result<Bound, AllocError> {
+    pub fn under(
+        &self,
+        heap: Global,
+        layer: Layer,
+        side: Option<Side>,
+    ) -> Result<Bound, AllocError> {
         let mut bound = if self.depth < LAYERS {
             self.shared()?
         } else {
@@ -74,16 +79,17 @@ impl Bound {
     fn copied(&self, heap: Global) -> Result<Bound, AllocError> {
         let below = self.stack();
         let (rows, columns) = (below.rows(), below.columns());
+        let stride = rows.max(1);
         let mut run = Vec::new(heap);
         for column in 0..columns {
-            for row in 0..rows {
+            for row in 0..stride {
                 run.push(Record::from(below.entry(row, column)))?;
             }
         }
         let scheme = Scheme::Dense {
             rows,
             columns,
-            stride: rows.max(1),
+            stride,
         };
         Bound::stored(heap, scheme, run)
     }

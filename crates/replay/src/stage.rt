@@ -150,7 +150,10 @@ fn called(came: Result<Drafted, Refused>) -> Left
 {
     match came {
         Ok(sheet) => leaves(Stage::Drafted(sheet), Answer::Granted),
-        Err(Refused { refusal, sheet }) => leaves(Stage::Free(Free::Working(sheet)), Answer::Refused(refusal)),
+        Err(Refused { refusal, sheet }) => leaves(
+            Stage::Free(Free::Working(sheet)),
+            Answer::Refused(refusal),
+        ),
     }
 }
 
