@@ -102,7 +102,7 @@ def compare(told, cases, foreign):
         counts[heading]["all"] += 1
         if difference:
             counts[heading]["differ"] += 1
-            print(f"case {number}, {heading}: {difference}")
+            print(f"case {number}, {heading}: {difference}", flush=True)
     for heading in sorted(counts):
         fates = ", ".join(f"{times} {fate}" for fate, times in sorted(counts[heading].items()) if fate not in ("all", "differ"))
         print(f"{heading}: {counts[heading]['all']} compared ({fates}), {counts[heading]['differ']} differ")
