@@ -1,5 +1,5 @@
 -- Worked cases of whole calls and of refusals, put before those of layouts and of cells.
-use Rattle.std.specs.Prelude.{ℕ, List, [], ◌∷◌, map, true, false, ℤ, pos, neg_ℤ, Some, None, Ok, Err}
+use Rattle.std.specs.Prelude.{ℕ, List, [], ◌∷◌, map, replicate, true, false, ℤ, pos, neg_ℤ, Some, None, Ok, Err}
 use Rattle.rounding.specs.declared.fault.Bound.TheVariants.{Lower, Upper}
 use Rattle.cells.specs.declared.cell.Record.{Record}
 use Rattle.cells.specs.Cases.{Cases, case}
@@ -7,13 +7,13 @@ use Rattle.cells.specs.JoinLaws.{hull}
 use Rattle.layouts.specs.Cases.{cases as cases-of-layouts}
 use Rattle.layouts.specs.declared.side.Side.TheVariants.{Lower as LowerSide, Upper as UpperSide}
 use Rattle.layouts.specs.Stored.{dense, dense_sound, packed, packed_sound}
-use Rattle.sheet.specs.declared.refusal.CallName.TheVariants.{Open, Set, Begin, Sum, Blend, Product, Solve, Copy, Permute, Post, Withdraw, OneNorm, InfinityNorm, Largest, Smallest, Width, Middle, Enclosed, PermuteRun}
+use Rattle.sheet.specs.declared.refusal.CallName.TheVariants.{Open, Set, Begin, Dot, Sum, Blend, Product, Solve, Join, Copy, Permute, Post, Withdraw, OneNorm, InfinityNorm, Largest, Smallest, Width, Middle, Enclosed, PermuteRun}
 use Rattle.sheet.specs.declared.refusal.Refusal.{Refusal}
 use Rattle.sheet.specs.declared.refusal.Refusal.TheVariants.{ScaleOutside, ShapeOutside, WrongLength, NoSuchColumn, NoSuchRow, NoCell, LayoutTooLarge, DivisorHoldsZero, NoPermutation}
 use Rattle.sheet.specs.declared.shape.Shape.{Shape}
-use Rattle.sheet.specs.Answers.{calling, posting, withdrawing, drafted, open_answer, set_answer, begin_answer, call_answer, answer, draft_after}
-use Rattle.sheet.specs.Calls.{Meaning, Call, dot, sum, blend, product, solve, join, copy, permute}
-use Rattle.sheet.specs.Checks.{Answer, refused, past_limit}
+use Rattle.sheet.specs.Answers.{working, drafted, calling, posting, withdrawing, stage_after, open_answer, set_answer, begin_answer, call_answer, answer, draft_after}
+use Rattle.sheet.specs.Calls.{Meaning, Call, dot, sum, blend, product, solve, join, copy, permute, name}
+use Rattle.sheet.specs.Checks.{Answer, granted, refused, past_limit}
 use Rattle.sheet.specs.Memory.{blanks}
 use Rattle.sheet.specs.Permutations.{run_answer}
 use Rattle.sheet.specs.Questions.{one_norm_answer, infinity_norm_answer, largest_answer, smallest_answer, width_answer, middle_answer, enclosed_answer}
@@ -183,9 +183,16 @@ permuted = permute 0 (1 ∷ (2 ∷ (0 ∷ [])))
 abbrev too_great : Call
 too_great = product 1 0 (stored 2 1 (point 131071 ∷ (point 131071 ∷ []))) (point 1) (point 0)
 
+-- each of the eight calls, on column 2
+abbrev eight : List Call
+eight = dot 2 1 0 1 (point 7) (point 0) ∷ (sum 2 1 0 ∷ (blend 2 0 (point 5) (point 10) ∷ (product 2 0 (below last) (point 1) (point 0)
+    ∷ (solve 2 LowerSide (below last) (point 10) ∷ (join 2 0 hull ∷ (copy 2 0 ∷ (permute 2 (1 ∷ (0 ∷ [])) ∷ [])))))))
+
 abbrev wholes : Cases → Cases
 wholes rest =
-    case (drafted_by (of_two 10 3) (dot 2 1 0 1 (point 7) (point 0)) (three (point 0))) (point 9 ∷ (rec (pos 0) (pos 6) ∷ []))
+    case (map name eight) (Dot ∷ (Sum ∷ (Blend ∷ (Product ∷ (Solve ∷ (Join ∷ (Copy ∷ (Permute ∷ []))))))))
+    (case (map (λ call. stage_after working (calling call) granted) eight) (replicate 8 (drafted 2))
+    (case (drafted_by (of_two 10 3) (dot 2 1 0 1 (point 7) (point 0)) (three (point 0))) (point 9 ∷ (rec (pos 0) (pos 6) ∷ []))
     (case (drafted_by (of_two 10 3) (dot 2 1 0 1 (point 7) (point 20)) (three (point 10))) (point 9 ∷ (rec (pos 20) (pos 26) ∷ []))
     (case (drafted_by (of_two 10 2) (blend 1 0 (point 5) (point 10)) (rec (pos 1) (pos 3) ∷ (point 0 ∷ (point 10 ∷ (point 0 ∷ []))))) (rec (pos 10) (pos 12) ∷ (point 0 ∷ []))
     (case (drafted_by (of_two 10 3) (sum 2 1 0) (three (point 0))) (point 9 ∷ (rec (pos 5) (pos 25) ∷ []))
@@ -198,7 +205,7 @@ wholes rest =
     -- both bounds of both rows are beyond the limit: the lower of the first row is told, for an upper solve of the last
     (case (answered (of_two 1 2) too_great (at_limit (point 0))) (refused (past_limit Product 1 0 Lower))
     (case (drafted_by (of_two 1 2) too_great (at_limit (point 0))) (blanks 2)
-    (case (answered (of_two 10 2) (solve 1 UpperSide (above last) (point 131071)) (beside (point 131071 ∷ (point 131071 ∷ [])))) (refused (past_limit Solve 1 1 Lower)) rest))))))))))
+    (case (answered (of_two 10 2) (solve 1 UpperSide (above last) (point 131071)) (beside (point 131071 ∷ (point 131071 ∷ [])))) (refused (past_limit Solve 1 1 Lower)) rest))))))))))))
 
 abbrev pub cases : Cases
 cases = named (opens (asks (questions (solves (blends (wholes cases-of-layouts))))))
