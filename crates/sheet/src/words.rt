@@ -1,5 +1,7 @@
-// The calls and the refusals in words, for programs that print them. A refusal's numbers are printed by whoever wants them.
+// The calls and the refusals in words, for programs that print them. A refusal's numbers are printed by whoever wants them. Under a
+// format such as `{:>8}` the words are cut and filled as any text is.
 ghost use Rattle.std.specs.Prelude.{Some};
+ghost use Rattle.std.specs.Fmt.{styled_text};
 ghost use Rattle.sheet.specs.Words.{call_word, refusal_words};
 
 use crate::refusal::{CallName, Refusal};
@@ -7,6 +9,8 @@ use std::fmt;
 
 impl fmt::Display for CallName {
     ghost output = { λ c. Some (call_word c) };
+
+    ghost styled_output = { λ c s. Some (styled_text s (call_word c)) };
 
     fn fmt<W: fmt::Write>(&self, f: &mut fmt::Formatter<W>) -> fmt::Result {
         f.pad(match self {
@@ -37,6 +41,8 @@ impl fmt::Display for CallName {
 
 impl fmt::Display for Refusal {
     ghost output = { λ r. Some (refusal_words r) };
+
+    ghost styled_output = { λ r s. Some (styled_text s (refusal_words r)) };
 
     fn fmt<W: fmt::Write>(&self, f: &mut fmt::Formatter<W>) -> fmt::Result {
         f.pad(match self {
