@@ -1,8 +1,8 @@
 -- Whatever the open sheet is asked, its shape stays.
-use Rattle.std.proofs.Common.{◌≡◌, ap, Bool, true, false, cond, List, Option, Some, None, inl, inr}
+use Rattle.std.proofs.Common.{◌≡◌, ap, length, Bool, true, false, cond, List, Option, Some, None, inl, inr}
 use Rattle.cells.specs.declared.cell.Record.{Record}
 use Rattle.replay.specs.Asks.{takes, Taken, Undone, Asked, LineCalled, CalledAt, CallAsked, AskedOf}
-use Rattle.replay.specs.Stages.{Standing, standing, shape_of}
+use Rattle.replay.specs.Stages.{Standing, standing, shape_of, FitsShape}
 use Rattle.replay.specs.declared.answer.Answer.TheVariants.{NotTaken}
 use Rattle.replay.specs.declared.stage.Left.{Left}
 use Rattle.script.specs.declared.line.Ask.{Ask as LineAsk}
@@ -45,9 +45,14 @@ call_kept (Some s) line cells draft left draft' h = by s.stage h
     by (drafted k) undone = ap shape_of undone.stands
 
 pub kept : (a : LineAsk) (s : Option Standing) (cells draft : List Record) (left : Left) (cells' draft' : List Record) → AskedOf a s cells draft left cells' draft' → shape_of (standing left.stage) ≡ shape_of s
-kept (ask.Set k i lower upper) s cells draft left cells' draft' h = asked_kept s _ cells draft left cells' draft' h
+kept (ask.Set k i bounds) s cells draft left cells' draft' h = asked_kept s _ cells draft left cells' draft' h
 kept ask.Begin s cells draft left cells' draft' h = asked_kept s _ cells draft left cells' draft' h
 kept (ask.Call line) s cells draft left cells' draft' h = call_kept s line cells draft left draft' h.0
 kept ask.Post s cells draft left cells' draft' h = asked_kept s _ cells draft left cells' draft' h
 kept ask.Withdraw s cells draft left cells' draft' h = asked_kept s _ cells draft left cells' draft' h
 kept (ask.Question question) s cells draft left cells' draft' h = ap shape_of h.stands
+
+-- memory that fits a shape goes on to fit it, whatever is written there
+pub still_fits : (s s' : Option Shape) (cells draft cells' draft' : List Record) → s' ≡ s → length cells' ≡ length cells → length draft' ≡ length draft → FitsShape s cells draft → FitsShape s' cells' draft'
+still_fits None s' cells draft cells' draft' e lc ld h = rw e h
+still_fits (Some s) s' cells draft cells' draft' e lc ld h = rw (e, lc, ld) h

@@ -135,7 +135,7 @@ asked_question (Some s) question cells = question_at s.stage s.shape question ce
 -- ---- all of them
 
 abbrev pub AskedOf : LineAsk → Option Standing → (cells draft : List Record) → Left → (cells' draft' : List Record) → Type 0
-AskedOf (ask.Set k i lower upper) s cells draft left cells' draft' = Asked s (setting k i lower upper) cells draft left cells' draft'
+AskedOf (ask.Set k i bounds) s cells draft left cells' draft' = Asked s (setting k i bounds.lower bounds.upper) cells draft left cells' draft'
 AskedOf ask.Begin s cells draft left cells' draft' = Asked s beginning cells draft left cells' draft'
 AskedOf (ask.Call call) s cells draft left cells' draft' = CallAsked s call cells draft left draft' × (cells' ≡ cells)
 AskedOf ask.Post s cells draft left cells' draft' = Asked s posting cells draft left cells' draft'

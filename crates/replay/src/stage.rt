@@ -16,7 +16,7 @@ use crate::names::Names;
 use cells::cell::Record;
 use cells::rules::{Hull, Meet};
 use layouts::triangle::Triangle;
-use script::line::{Ask, Call, Question, Rule};
+use script::line::{Ask, Bounds, Call, Question, Rule};
 use sheet::questions::Questions;
 use sheet::refusal::Refusal;
 use sheet::states::{Drafted, Filling, NotBegun, Refused, StillDrafted, Working};
@@ -98,12 +98,12 @@ fn answered(came: Result<(), Refusal>) -> Answer
     }
 }
 
-fn set(stage: Stage, k: usize, i: usize, lower: i64, upper: i64, cells: &mut [Record]) -> Left
-    ensures { (draft : List Record) → Asked (standing stage) (setting k i lower upper) cells.old draft result cells.new draft }
+fn set(stage: Stage, k: usize, i: usize, bounds: Bounds, cells: &mut [Record]) -> Left
+    ensures { (draft : List Record) → Asked (standing stage) (setting k i bounds.lower bounds.upper) cells.old draft result cells.new draft }
 {
     match stage {
         Stage::Free(Free::Filling(sheet)) => {
-            let came = sheet.set(k, i, lower, upper, cells);
+            let came = sheet.set(k, i, bounds.lower, bounds.upper, cells);
             leaves(Stage::Free(Free::Filling(sheet)), answered(came))
         }
         stage => leaves(stage, Answer::NotTaken),
@@ -320,7 +320,7 @@ fn ask_of(
     ensures { AskedOf ask.entry (standing stage) cells.old draft.old result cells.new draft.new }
 {
     match ask {
-        Ask::Set { k, i, lower, upper } => set(stage, k, i, lower, upper, cells),
+        Ask::Set { k, i, bounds } => set(stage, k, i, bounds, cells),
         Ask::Begin => begin(stage, cells),
         Ask::Call(called) => call(stage, heap, called, names, cells, draft),
         Ask::Post => post(stage, cells, draft),

@@ -22,17 +22,19 @@ pub enum Line<'a> {
 // What is asked of a sheet that is open.
 #[derive(Clone, Copy)]
 pub enum Ask<'a> {
-    Set {
-        k: usize,
-        i: usize,
-        lower: i64,
-        upper: i64,
-    },
+    Set { k: usize, i: usize, bounds: Bounds },
     Begin,
     Call(Call<'a>),
     Post,
     Withdraw,
     Question(Question),
+}
+
+// What a cell is to be set to.
+#[derive(Clone, Copy)]
+pub struct Bounds {
+    pub lower: i64,
+    pub upper: i64,
 }
 
 // The calls of a working sheet.

@@ -40,7 +40,11 @@ pub fn size(word: &[u8]) -> Option<i64> {
             .saturating_mul(10)
             .saturating_add(i64::from(digit.wrapping_sub(b'0')));
     }
-    Some(if negative { number.saturating_neg() } else { number })
+    Some(if negative {
+        number.saturating_neg()
+    } else {
+        number
+    })
 }
 
 // Bounds that a record cannot hold make no cell.

@@ -1,5 +1,5 @@
 // A line of a script, read.
-use crate::line::{Ask, Call, Line, Matrix, Question, Rule};
+use crate::line::{Ask, Bounds, Call, Line, Matrix, Question, Rule};
 use crate::numbers;
 use crate::words::Words;
 use stacks::storage::Scheme;
@@ -65,18 +65,10 @@ fn call<'a>(word: &[u8], words: &mut Words<'a>) -> Option<Call<'a>> {
 
 fn question(word: &[u8], words: &mut Words<'_>) -> Option<Question> {
     let question = match word {
-        b"norm1" => Question::OneNorm {
-            k: words.count()?,
-        },
-        b"norminf" => Question::InfinityNorm {
-            k: words.count()?,
-        },
-        b"largest" => Question::Largest {
-            k: words.count()?,
-        },
-        b"smallest" => Question::Smallest {
-            k: words.count()?,
-        },
+        b"norm1" => Question::OneNorm { k: words.count()? },
+        b"norminf" => Question::InfinityNorm { k: words.count()? },
+        b"largest" => Question::Largest { k: words.count()? },
+        b"smallest" => Question::Smallest { k: words.count()? },
         b"width" => Question::Width {
             k: words.count()?,
             i: words.count()?,
@@ -154,8 +146,10 @@ fn ask<'a>(word: &[u8], words: &mut Words<'a>) -> Option<Ask<'a>> {
         b"set" => Ask::Set {
             k: words.count()?,
             i: words.count()?,
-            lower: words.size()?,
-            upper: words.size()?,
+            bounds: Bounds {
+                lower: words.size()?,
+                upper: words.size()?,
+            },
         },
         b"begin" => Ask::Begin,
         b"post" => Ask::Post,
