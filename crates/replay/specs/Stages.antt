@@ -1,23 +1,29 @@
--- The sheet of a replay, in whatever state it is, and the memory that fits it.
+-- The sheet of a replay, in whatever state it is, in the words of the sheet's model, and the memory that fits it.
 use Rattle.std.specs.Prelude.{◌≡◌, true, List, Option, Some, None}
 use Rattle.cells.specs.declared.cell.Record.{Record}
 use Rattle.replay.specs.declared.stage.Free.TheVariants.{Closed, Filling, Working}
 use Rattle.replay.specs.declared.stage.Stage.{Stage}
 use Rattle.replay.specs.declared.stage.Stage.TheVariants.{Free, Drafted}
 use Rattle.sheet.specs.declared.shape.Shape.{Shape}
+use Rattle.sheet.specs.Answers.{Stage as SheetStage, filling, working, drafted}
 use Rattle.sheet.specs.Memory.{has_both}
 
+-- the stage and the shape of a sheet
+pub record Standing : Type 0 where
+  pub stage : SheetStage
+  pub shape : Shape
+
 -- none while no sheet was opened
-abbrev pub shape_of : Stage → Option Shape
-shape_of (Free Closed) = None
-shape_of (Free (Filling f)) = Some f.shape
-shape_of (Free (Working w)) = Some w.shape
-shape_of (Drafted d) = Some d.shape
+abbrev pub standing : Stage → Option Standing
+standing (Free Closed) = None
+standing (Free (Filling f)) = Some (record { stage = filling; shape = f.shape })
+standing (Free (Working w)) = Some (record { stage = working; shape = w.shape })
+standing (Drafted d) = Some (record { stage = drafted d.column; shape = d.shape })
 
 -- the cells and the draft are as many as the open sheet has
-abbrev pub FitsShape : Option Shape → (cells draft : List Record) → Type 0
-FitsShape None cells draft = Unit {0}
-FitsShape (Some s) cells draft = has_both s cells draft ≡ true
+abbrev pub FitsStanding : Option Standing → (cells draft : List Record) → Type 0
+FitsStanding None cells draft = Unit {0}
+FitsStanding (Some s) cells draft = has_both s.shape cells draft ≡ true
 
 abbrev pub Fits : Stage → (cells draft : List Record) → Type 0
-Fits s = FitsShape (shape_of s)
+Fits stage = FitsStanding (standing stage)

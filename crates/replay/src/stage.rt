@@ -1,7 +1,13 @@
 // The sheet, in whatever state it is, and what each line makes of it.
-ghost use Rattle.std.specs.Prelude.{◌≡◌, Some};
-ghost use Rattle.sheet.specs.Outcomes.{answered_call, answered_close};
-ghost use Rattle.replay.specs.Stages.{shape_of, Fits};
+ghost use Rattle.std.specs.Prelude.{◌≡◌, List, Some};
+ghost use Rattle.cells.specs.declared.cell.Record.{Record};
+ghost use Rattle.sheet.specs.declared.shape.Shape.{Shape};
+ghost use Rattle.sheet.specs.Answers.{setting, beginning, posting, withdrawing, drafted};
+ghost use Rattle.sheet.specs.Calls.{Call as SheetCall};
+ghost use Rattle.sheet.specs.Outcomes.{answer_of, answered_close, Calls};
+ghost use Rattle.replay.specs.Asks.{told, size_told, steps_told, size_at_told, whether_told, question_answer, asked_question, Asked, Called, NotCalled, CallAsked, LineCalled, AskedOf};
+ghost use Rattle.replay.specs.Stages.{standing, Fits};
+ghost use Rattle.replay.specs.declared.answer.Answer.TheVariants.{NotTaken};
 ghost use Rattle.replay.specs.declared.stage.Stage.TheVariants.{Free as FreeSheet};
 
 use crate::answer::Answer;
@@ -83,7 +89,9 @@ pub fn open(
     }
 }
 
-fn answered(came: Result<(), Refusal>) -> Answer {
+fn answered(came: Result<(), Refusal>) -> Answer
+    ensures { result ≡ told (answer_of came) }
+{
     match came {
         Ok(()) => Answer::Granted,
         Err(refusal) => Answer::Refused(refusal),
@@ -91,7 +99,7 @@ fn answered(came: Result<(), Refusal>) -> Answer {
 }
 
 fn set(stage: Stage, k: usize, i: usize, lower: i64, upper: i64, cells: &mut [Record]) -> Left
-    ensures { shape_of result.stage ≡ shape_of stage }
+    ensures { (draft : List Record) → Asked (standing stage) (setting k i lower upper) cells.old draft result cells.new draft }
 {
     match stage {
         Stage::Free(Free::Filling(sheet)) => {
@@ -103,7 +111,7 @@ fn set(stage: Stage, k: usize, i: usize, lower: i64, upper: i64, cells: &mut [Re
 }
 
 fn begin(stage: Stage, cells: &[Record]) -> Left
-    ensures { shape_of result.stage ≡ shape_of stage }
+    ensures { (draft : List Record) → Asked (standing stage) beginning cells.now draft result cells.now draft }
 {
     match stage {
         Stage::Free(Free::Filling(sheet)) => match sheet.begin(cells) {
@@ -117,7 +125,8 @@ fn begin(stage: Stage, cells: &[Record]) -> Left
 }
 
 fn ended(came: Result<Working, StillDrafted>) -> Left
-    ensures { shape_of result.stage ≡ Some (answered_close came).shape }
+    ensures answer { result.answer ≡ told (answered_close came).answer }
+    ensures stands { standing result.stage ≡ Some (record { stage = (answered_close came).stage; shape = (answered_close came).shape }) }
 {
     match came {
         Ok(sheet) => leaves(Stage::Free(Free::Working(sheet)), Answer::Granted),
@@ -128,7 +137,7 @@ fn ended(came: Result<Working, StillDrafted>) -> Left
 }
 
 fn post(stage: Stage, cells: &mut [Record], draft: &mut [Record]) -> Left
-    ensures { shape_of result.stage ≡ shape_of stage }
+    ensures { Asked (standing stage) posting cells.old draft.old result cells.new draft.new }
 {
     match stage {
         Stage::Drafted(sheet) => ended(sheet.post(cells, draft)),
@@ -137,7 +146,7 @@ fn post(stage: Stage, cells: &mut [Record], draft: &mut [Record]) -> Left
 }
 
 fn withdraw(stage: Stage, cells: &[Record], draft: &mut [Record]) -> Left
-    ensures { shape_of result.stage ≡ shape_of stage }
+    ensures { Asked (standing stage) withdrawing cells.now draft.old result cells.now draft.new }
 {
     match stage {
         Stage::Drafted(sheet) => ended(sheet.withdraw(cells, draft)),
@@ -146,7 +155,7 @@ fn withdraw(stage: Stage, cells: &[Record], draft: &mut [Record]) -> Left
 }
 
 fn called(came: Result<Drafted, Refused>) -> Left
-    ensures { shape_of result.stage ≡ Some (answered_call came).shape }
+    ensures { (s : Shape) (call : SheetCall) (cells draft drafted′ : List Record) → Calls s call cells draft came drafted′ → Called s call cells draft result drafted′ }
 {
     match came {
         Ok(sheet) => leaves(Stage::Drafted(sheet), Answer::Granted),
@@ -158,7 +167,7 @@ fn called(came: Result<Drafted, Refused>) -> Left
 }
 
 fn not_taken(sheet: Working) -> Left
-    ensures { shape_of result.stage ≡ Some sheet.shape }
+    ensures { (cells draft : List Record) → NotCalled NotTaken sheet.shape cells draft result draft }
 {
     leaves(Stage::Free(Free::Working(sheet)), Answer::NotTaken)
 }
@@ -171,7 +180,7 @@ fn call_working(
     cells: &[Record],
     draft: &mut [Record],
 ) -> Left
-    ensures { shape_of result.stage ≡ Some sheet.shape }
+    ensures { LineCalled call.entry sheet.shape cells.now draft.old result draft.new }
 {
     match call {
         Call::Dot {
@@ -227,7 +236,7 @@ fn call(
     cells: &[Record],
     draft: &mut [Record],
 ) -> Left
-    ensures { shape_of result.stage ≡ shape_of stage }
+    ensures { CallAsked (standing stage) call.entry cells.now draft.old result draft.new }
 {
     match stage {
         Stage::Free(Free::Working(sheet)) => call_working(sheet, heap, call, names, cells, draft),
@@ -235,48 +244,68 @@ fn call(
     }
 }
 
-fn number<T: Into<i64>>(number: Option<T>) -> Answer {
-    match number {
-        None => Answer::Nothing,
-        Some(number) => Answer::Number(number.into()),
+fn size(came: Result<Option<u32>, Refusal>) -> Answer
+    ensures { result ≡ size_told came }
+{
+    match came {
+        Ok(None) => Answer::Nothing,
+        Ok(Some(size)) => Answer::Size(size),
+        Err(refusal) => Answer::Refused(refusal),
     }
 }
 
-fn size_at(found: Option<(u32, usize)>) -> Answer {
-    match found {
-        None => Answer::Nothing,
-        Some((size, row)) => Answer::SizeAt(size, row),
+fn steps(came: Result<Option<i32>, Refusal>) -> Answer
+    ensures { result ≡ steps_told came }
+{
+    match came {
+        Ok(None) => Answer::Nothing,
+        Ok(Some(steps)) => Answer::Steps(steps),
+        Err(refusal) => Answer::Refused(refusal),
     }
 }
 
-fn answer(sheet: Questions, question: Question, cells: &[Record]) -> Result<Answer, Refusal> {
-    Ok(match question {
-        Question::OneNorm { k } => number(sheet.one_norm(k, cells)?),
-        Question::InfinityNorm { k } => number(sheet.infinity_norm(k, cells)?),
-        Question::Largest { k } => size_at(sheet.largest(k, cells)?),
-        Question::Smallest { k } => size_at(sheet.smallest(k, cells)?),
-        Question::Width { k, i } => number(sheet.width(k, i, cells)?),
-        Question::Middle { k, i } => number(sheet.middle(k, i, cells)?),
-        Question::Enclosed { k, x } => {
-            if sheet.enclosed(k, x, cells)? {
-                Answer::Yes
-            } else {
-                Answer::No
-            }
-        }
-    })
+fn size_at(came: Result<Option<(u32, usize)>, Refusal>) -> Answer
+    ensures { result ≡ size_at_told came }
+{
+    match came {
+        Ok(None) => Answer::Nothing,
+        Ok(Some((size, row))) => Answer::SizeAt(size, row),
+        Err(refusal) => Answer::Refused(refusal),
+    }
+}
+
+fn whether(came: Result<bool, Refusal>) -> Answer
+    ensures { result ≡ whether_told came }
+{
+    match came {
+        Ok(true) => Answer::Yes,
+        Ok(false) => Answer::No,
+        Err(refusal) => Answer::Refused(refusal),
+    }
+}
+
+fn answer(sheet: Questions, question: Question, cells: &[Record]) -> Answer
+    ensures { result ≡ question_answer question sheet.shape cells.now }
+{
+    match question {
+        Question::OneNorm { k } => size(sheet.one_norm(k, cells)),
+        Question::InfinityNorm { k } => size(sheet.infinity_norm(k, cells)),
+        Question::Largest { k } => size_at(sheet.largest(k, cells)),
+        Question::Smallest { k } => size_at(sheet.smallest(k, cells)),
+        Question::Width { k, i } => steps(sheet.width(k, i, cells)),
+        Question::Middle { k, i } => steps(sheet.middle(k, i, cells)),
+        Question::Enclosed { k, x } => whether(sheet.enclosed(k, x, cells)),
+    }
 }
 
 // Working and drafted sheets take questions.
-fn question(stage: &Stage, question: Question, cells: &[Record]) -> Answer {
-    let sheet = match stage {
-        Stage::Free(Free::Working(sheet)) => sheet.ask(),
-        Stage::Drafted(sheet) => sheet.ask(),
-        _ => return Answer::NotTaken,
-    };
-    match answer(sheet, question, cells) {
-        Ok(answer) => answer,
-        Err(refusal) => Answer::Refused(refusal),
+fn question(stage: &Stage, question: Question, cells: &[Record]) -> Answer
+    ensures { result ≡ asked_question (standing stage.now) question cells.now }
+{
+    match stage {
+        Stage::Free(Free::Working(sheet)) => answer(sheet.ask(), question, cells),
+        Stage::Drafted(sheet) => answer(sheet.ask(), question, cells),
+        _ => Answer::NotTaken,
     }
 }
 
@@ -288,7 +317,7 @@ fn ask_of(
     cells: &mut [Record],
     draft: &mut [Record],
 ) -> Left
-    ensures { shape_of result.stage ≡ shape_of stage }
+    ensures { AskedOf ask.entry (standing stage) cells.old draft.old result cells.new draft.new }
 {
     match ask {
         Ask::Set { k, i, lower, upper } => set(stage, k, i, lower, upper, cells),
