@@ -23,11 +23,15 @@ use Rattle.cells.specs.Questions.{nested}
 use Rattle.cells.specs.Quotients.{zero_in, nought, divided}
 use Rattle.cells.specs.JoinLaws.{met_in, met_out, hull_left, hull_right, hull_least}
 use Rattle.cells.specs.Laws.{Laws}
+use Rattle.cells.specs.Scales.{IsScale}
 use Rattle.cells.specs.Reading.{read_cell}
 use Rattle.cells.proofs.JoinTight.{join_tight}
 
 positive_nonzero : (t : ℤ) → pos 0 <ℤ t → t ≡ pos 0 → ⊥
 positive_nonzero t h e = omega (arith, ints)
+
+scale_ends : IsScale (pos 1) × IsScale (pos 100000)
+scale_ends = ((omega (arith, ints), omega (arith, ints)), (omega (arith, ints), omega (arith, ints)))
 
 -- ---- the formulas
 products_exactly : (u : ℤ) (xs ys : ℕ → Value) (n : ℕ) → pos 0 <ℤ u → ((j : ℕ) → j < n → Ordered (xs j)) → ((j : ℕ) → j < n → Ordered (ys j))
@@ -73,6 +77,11 @@ divided_apart : (v d : Value) → zero_in d ≡ false → divided v d ≡ quotie
 divided_apart empty d e = refl
 divided_apart (bounds a b) empty e = refl
 divided_apart (bounds a b) (bounds c d) e = ap (λ (t : Bool). cond t empty (quotients (bounds a b) (bounds c d))) e
+
+divided_zero : (v d : Value) → zero_in d ≡ true → divided v d ≡ empty
+divided_zero empty d e = refl
+divided_zero (bounds a b) empty e = refl
+divided_zero (bounds a b) (bounds c d) e = ap (λ (t : Bool). cond t empty (quotients (bounds a b) (bounds c d))) e
 
 not_zero_apart : (d : Value) → Ordered d → zero_in d ≡ false → Apart d
 not_zero_apart empty o e = tt
@@ -150,6 +159,7 @@ nested_told (bounds a b) (bounds c d) h = and_from (le_z c a) (le_z b d) (true_l
 
 pub laws : Laws
 laws = record {
+  scale_ends = scale_ends;
   read_cell = read_cell;
   read_written = read_written;
   kept_cell = kept_cell;
@@ -164,6 +174,7 @@ laws = record {
   blend_tight = blend_tight;
   blend_grows = blend_grows;
   divided_apart = divided_apart;
+  divided_zero = divided_zero;
   not_zero_apart = not_zero_apart;
   zero_held = zero_held;
   quotient_tight = quotient_tight;

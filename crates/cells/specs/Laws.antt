@@ -3,7 +3,7 @@
 use Rattle.std.specs.Prelude.{◌≡◌, ℕ, ◌<◌, true, false, ℤ, pos, ◌<ℤ◌, Ok}
 use Rattle.arithmetic.specs.Fractions.{Fraction}
 use Rattle.arithmetic.specs.Sets.{Included, ProductSet, QuotientSet}
-use Rattle.arithmetic.specs.Values.{Value, Ordered, Inside, Within, Nested, Tightly, Apart, times, quotients}
+use Rattle.arithmetic.specs.Values.{Value, empty, Ordered, Inside, Within, Nested, Tightly, Apart, times, quotients}
 use Rattle.cells.specs.declared.cell.Record.{Record}
 use Rattle.cells.specs.Cells.{IsCell, read_as, written}
 use Rattle.cells.specs.Faults.{kept}
@@ -16,6 +16,8 @@ use Rattle.cells.specs.Rules.{Admitted, Rule}
 use Rattle.cells.specs.Scales.{IsScale}
 
 pub record Laws : Type 0 where
+  -- the least and the greatest scale are legal
+  pub scale_ends : IsScale (pos 1) × IsScale (pos 100000)
   -- every record reads as a cell, and a cell that was written reads as itself
   pub read_cell : (r : Record) → IsCell (read_as r)
   pub read_written : (c : Value) → IsCell c → read_as (written c) ≡ c
@@ -45,6 +47,8 @@ pub record Laws : Type 0 where
       → Included (BlendValues (Inside u alpha) (Inside u beta) (Inside u x) (Inside u r)) (BlendValues (Inside u alpha') (Inside u beta') (Inside u x') (Inside u r'))
   -- a quotient by a cell that does not hold 0: the four quotients of bounds, tight for alpha·x over the divisor
   pub divided_apart : (v d : Value) → zero_in d ≡ false → divided v d ≡ quotients v d
+  -- by a cell that holds 0: empty, whatever is divided
+  pub divided_zero : (v d : Value) → zero_in d ≡ true → divided v d ≡ empty
   pub not_zero_apart : (d : Value) → Ordered d → zero_in d ≡ false → Apart d
   -- and a cell that is told to hold 0 does
   pub zero_held : (u : ℤ) (d : Value) → zero_in d ≡ true → Inside u d nought

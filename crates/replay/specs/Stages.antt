@@ -20,10 +20,14 @@ standing (Free (Filling f)) = Some (record { stage = filling; shape = f.shape })
 standing (Free (Working w)) = Some (record { stage = working; shape = w.shape })
 standing (Drafted d) = Some (record { stage = drafted d.column; shape = d.shape })
 
--- the cells and the draft are as many as the open sheet has
-abbrev pub FitsStanding : Option Standing → (cells draft : List Record) → Type 0
-FitsStanding None cells draft = Unit {0}
-FitsStanding (Some s) cells draft = has_both s.shape cells draft ≡ true
+abbrev pub shape_of : Option Standing → Option Shape
+shape_of None = None
+shape_of (Some s) = Some s.shape
+
+-- the cells and the draft are as many as a sheet of this shape has
+abbrev pub FitsShape : Option Shape → (cells draft : List Record) → Type 0
+FitsShape None cells draft = Unit {0}
+FitsShape (Some s) cells draft = has_both s cells draft ≡ true
 
 abbrev pub Fits : Stage → (cells draft : List Record) → Type 0
-Fits stage = FitsStanding (standing stage)
+Fits stage = FitsShape (shape_of (standing stage))

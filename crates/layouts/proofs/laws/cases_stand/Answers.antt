@@ -5,4 +5,4 @@ use Rattle.layouts.proofs.laws.cases_stand.Goals as goal
 
 pub returns : goal.returns
 unfolding least_quotient greatest_quotient rows_in_order
-returns c = (refl, (refl, (refl, (refl, (refl, (refl, (refl, (refl, (refl, (refl, (refl, (refl, (refl, (refl, (refl, (refl, (refl, (refl, (refl, (refl, (refl, (refl, (refl, c.cases_stand.ensures)))))))))))))))))))))))
+returns c = (refl, (refl, (refl, (refl, (refl, (refl, (refl, (refl, (refl, (refl, (refl, (refl, (refl, (refl, (refl, (refl, (refl, (refl, (refl, (refl, (refl, (refl, (refl, (refl, (refl, (refl, (refl, (refl, (refl, (refl, (refl, (refl, (refl, (refl, (refl, (refl, (refl, (refl, (refl, (refl, (refl, (refl, c.cases_stand.ensures))))))))))))))))))))))))))))))))))))))))))
