@@ -1,5 +1,6 @@
 -- Whatever the open sheet is asked, its shape stays.
-use Rattle.std.proofs.Common.{◌≡◌, ap, length, Bool, true, false, cond, List, Option, Some, None, inl, inr}
+use Rattle.std.proofs.Common.{◌≡◌, ◌∙◌, ap, arith, ℕ, ◌+◌, ◌-◌, length, take, drop, ◌++◌, Bool, true, false, cond, List, Option, Some, None, inl, inr}
+use Rattle.std.proofs.lemmas.List.{length-append, length-drop, length-take-le}
 use Rattle.cells.specs.declared.cell.Record.{Record}
 use Rattle.replay.specs.Asks.{takes, Taken, Undone, Asked, LineCalled, CalledAt, CallAsked, AskedOf}
 use Rattle.replay.specs.Stages.{Standing, standing, shape_of, FitsShape}
@@ -56,3 +57,9 @@ kept (ask.Question question) s cells draft left cells' draft' h = ap shape_of h.
 pub still_fits : (s s' : Option Shape) (cells draft cells' draft' : List Record) → s' ≡ s → length cells' ≡ length cells → length draft' ≡ length draft → FitsShape s cells draft → FitsShape s' cells' draft'
 still_fits None s' cells draft cells' draft' e lc ld h = rw e h
 still_fits (Some s) s' cells draft cells' draft' e lc ld h = rw (e, lc, ld) h
+
+-- a part of memory that was lent and comes back: the whole is as long as it was
+pub back_length : (n : ℕ) (part whole : List Record) → n ≡ length whole → length (take n (part ++ drop (length part) whole)) ≡ length whole
+back_length n part whole e =
+    let all : length (part ++ drop (length part) whole) ≡ length part + (length whole - length part) = length-append part _ ∙ ap (λ k. length part + k) (length-drop (length part) whole) in
+    length-take-le n _ (omega (arith, e, all)) ∙ e
