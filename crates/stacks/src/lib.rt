@@ -2,6 +2,8 @@
 // layouts of the library mean that they are made of, and ask these for every answer.
 #![tactic(auto)]
 
+pub mod dense_copy;
 pub mod layered;
+pub mod shared_stack;
 pub mod stack;
 pub mod storage;

@@ -1,0 +1,8 @@
+-- What a layout means that owns its run.
+use Rattle.layouts.specs.Matrix.{Matrix}
+use Rattle.stacks.specs.declared.shared_stack.SharedStack.{SharedStack}
+use Rattle.stacks.specs.Stacks.{read_by, stacked}
+
+-- what its layers mean over what its scheme reads of the run
+abbrev pub meaning_of : SharedStack → Matrix
+meaning_of s = stacked s.layers (read_by s.scheme s.run.value.items)
