@@ -1,5 +1,5 @@
 -- When two matrices are the same, and which one dense storage reads where the cells of a matrix lie column after column.
-use Rattle.std.proofs.Common.{◌≡◌, ◌⊎◌, inl, inr, ℕ, ◌+◌, ◌*◌, ◌/◌, ◌%◌, ◌<◌, ◌≤◌, min, max, Bool, true, false, cond, ◌&&◌, ltb, leb, List, length, map, get_or, sym, ap, ◌∙◌, refl, arith}
+use Rattle.std.proofs.Common.{◌≡◌, ◌⊎◌, inl, inr, ℕ, ◌*◌, ◌/◌, ◌%◌, ◌<◌, ◌≤◌, max, true, false, cond, ◌&&◌, ltb, List, length, map, sym, ap, ◌∙◌, refl, arith}
 use Rattle.std.proofs.Math.Path.{fun_ext}
 use Rattle.std.proofs.lemmas.Bool.{cond_both, cond-true, and_parts, and_from, and_cases, le-leb, ltb-true, ltb-false}
 use Rattle.std.proofs.lemmas.List.FromFn.{get_or-map-range_with_len, length-map-range_with_len}
@@ -28,6 +28,7 @@ shaped_same m f s e = same (shaped m.rows m.columns f) m refl refl at
     outside : (i j : ℕ) → (ltb i m.rows ≡ false) ⊎ (ltb j m.columns ≡ false) → empty ≡ m.entry i j
     outside i j (inl b) = sym (s.below i j (ltb-false i m.rows b))
     outside i j (inr b) = sym (s.right i j (ltb-false j m.columns b))
+
     at : (i j : ℕ) → cond (ltb i m.rows && ltb j m.columns) (f i j) empty ≡ m.entry i j
     at i j =
         let a = ltb i m.rows in let b = ltb j m.columns in

@@ -1,22 +1,16 @@
 -- The side that is named for a layer's matrix is the right one.
-use Rattle.std.proofs.Common.{◌≡◌, ℕ, ◌<◌, Bool, false, cond, ◌&&◌, ltb, leb, ◌==◌, Option, Some, None, ℤ, sym, subst, ap, ◌∙◌, refl, List, [], ◌∷◌, length, get_or, rules, arith}
+use Rattle.std.proofs.Common.{◌≡◌, ℕ, false, ◌&&◌, ltb, leb, ◌==◌, Option, Some, None, ℤ, sym, subst, ◌∙◌, refl, arith}
 use Rattle.std.proofs.lemmas.Bool.{cond_both, cond-true, cond-false, and_from, lt-ltb}
 use Rattle.std.proofs.lemmas.Bool.Decides.{nat_tests}
 use Rattle.arithmetic.specs.Values.{bounds, empty, zeros}
-use Rattle.cells.specs.declared.cell.Record.{Record}
 use Rattle.layouts.specs.declared.side.Side.{Side}
 use Rattle.layouts.specs.declared.side.Side.TheVariants.{Lower, Upper}
 use Rattle.layouts.specs.Layers.{transposed, smaller, kept_side, triangle, unit_entry, unit_fit, unit_diagonal}
-use Rattle.layouts.specs.Matrix.{Matrix, Sound, shaped, nothing}
+use Rattle.layouts.specs.Matrix.{Matrix, shaped, nothing}
 use Rattle.layouts.specs.Sides.{on_side, opposite, IsTriangle}
-use Rattle.layouts.specs.Stored.{dense_sound, band_sound, packed_sound}
 use Rattle.stacks.specs.declared.layered.Layer.{Layer}
 use Rattle.stacks.specs.declared.layered.Layer.TheVariants as layer
-use Rattle.stacks.specs.declared.shared_stack.SharedStack.{SharedStack}
-use Rattle.stacks.specs.declared.storage.Scheme.{Scheme}
-use Rattle.stacks.specs.declared.storage.Scheme.TheVariants as scheme
-use Rattle.stacks.specs.Shared.{meaning_of}
-use Rattle.stacks.specs.Stacks.{read_by, layered, layered_sound, layered_side, stacked, IsAsNamed}
+use Rattle.stacks.specs.Stacks.{layered, layered_side, IsAsNamed}
 
 turned : (side : Side) (m : Matrix) → IsTriangle side m → IsTriangle (opposite side) (transposed m)
 turned Lower m t = record { square = sym t.square; zero_beyond = λ i j h k e. t.zero_beyond j i k h e }
@@ -68,29 +62,3 @@ pub named_over : (l : Layer) (below side : Option Side) (m n : Matrix) → side 
 named_over l below side m n e h same =
     let P : Option Side → Type 0 = λ s. IsAsNamed s (layered l n) in let Q : Matrix → Type 0 = λ k. IsAsNamed (layered_side l below) (layered l k) in
     subst P (sym e) (subst Q (sym same) (named l below m h))
-
-scheme_sound : (k : Scheme) (run : List Record) → Sound (read_by k run)
-scheme_sound (scheme.Dense rows columns stride) run = dense_sound run rows columns stride
-scheme_sound (scheme.Band rows columns below above stride) run = band_sound run rows columns below above stride
-scheme_sound (scheme.Packed side n) run = packed_sound run side n
-
-stacked_sound : (ls : List Layer) (m : Matrix) → Sound m → Sound (stacked ls m)
-stacked_sound [] m s = s
-stacked_sound (l ∷ ls) m s = stacked_sound ls (layered l m) (layered_sound l m s)
-
-pub meaning_sound : (s : SharedStack) → Sound (meaning_of s)
-meaning_sound s = stacked_sound s.layers (read_by s.scheme s.run.value.items) (scheme_sound s.scheme s.run.value.items)
-
--- four layers, one by one
-four_layers : (ls : List Layer) (m : Matrix) → length ls ≡ 4 → layered (get_or ls 3 layer.Plain) (layered (get_or ls 2 layer.Plain) (layered (get_or ls 1 layer.Plain) (layered (get_or ls 0 layer.Plain) m))) ≡ stacked ls m
-four_layers (a ∷ b ∷ c ∷ d ∷ []) m e = refl
-four_layers [] m e = absurd (omega arith)
-four_layers (a ∷ []) m e = absurd (omega arith)
-four_layers (a ∷ b ∷ []) m e = absurd (omega arith)
-four_layers (a ∷ b ∷ c ∷ []) m e = absurd (omega arith)
-four_layers (a ∷ b ∷ c ∷ d ∷ e ∷ ls) m h = absurd (omega arith)
-
--- a lowest layer that is plain does nothing
-pub lowest_plain : (ls : List Layer) (m n : Matrix) → length ls ≡ 4 → get_or ls 0 layer.Plain ≡ layer.Plain → n ≡ m
-    → layered (get_or ls 3 layer.Plain) (layered (get_or ls 2 layer.Plain) (layered (get_or ls 1 layer.Plain) n)) ≡ stacked ls m
-lowest_plain ls m n four low same = let e = four_layers ls n four in rw low at e ∙ ap (stacked ls) same

@@ -1,6 +1,8 @@
-// A layout that owns its run, and shares it with the layouts that are made over it.
-ghost use Rattle.std.specs.Prelude.{◌≡◌, IfOk, MatchOption, None, Some};
+// A stack that owns its run, and shares it with the stacks that are made of it.
+ghost use Rattle.std.specs.Prelude.{◌≡◌, IfOk, IfSome};
+ghost use Rattle.std.specs.Option.{option_map};
 ghost use Rattle.std.proofs.Props.{props};
+ghost use Rattle.layouts.specs.Sides.{IsTriangle};
 ghost use Rattle.stacks.specs.Stacks.{read_by, stacked, layered, stored_side, layered_side, IsAsNamed};
 
 use crate::dense_copy::{DenseCopy, dense_copy};
@@ -14,28 +16,23 @@ use layouts::triangle::Triangle;
 use std::alloc::{AllocError, Global};
 use std::rc::Rc;
 
-// A storage with its run under four layers, of which any may be plain.
+// A storage with its run under layers. It is known to be triangular of a side only where its scheme or its layers make it so.
 #[derive(Drop)]
 pub struct SharedStack {
     run: Rc<Vec<Record>>,
     scheme: Scheme,
     layers: [Layer; LAYERS],
-    // of a layout that is known to be triangular
     side: Option<Side>,
     ghost named: { IsAsNamed side (stacked layers (read_by scheme run.value.items)) } by { Prim.hlevel props },
 }
 
 impl SharedStack {
-    ghost use Rattle.stacks.specs.Shared.{meaning_of};
+    ghost use Rattle.stacks.specs.Shared.{meaning_of, side_of};
 
-    // A storage alone.
-    pub fn stored(
-        heap: Global,
-        scheme: Scheme,
-        run: Vec<Record>,
-    ) -> Result<SharedStack, AllocError>
+    // A storage under no layer.
+    pub fn new(heap: Global, scheme: Scheme, run: Vec<Record>) -> Result<SharedStack, AllocError>
         ensures means { IfOk result (λ s. meaning_of s ≡ read_by scheme run.items) }
-        ensures side { IfOk result (λ s. s.side ≡ stored_side scheme) }
+        ensures side { IfOk result (λ s. side_of s ≡ stored_side scheme) }
     {
         Ok(SharedStack {
             run: Rc::new(heap, run)?,
@@ -51,9 +48,11 @@ impl SharedStack {
         stack(self.scheme.over(&self.run), self.layers)
     }
 
-    // As a triangular layout, where it is known to be one: the triangle layer changes nothing of it.
+    // As a triangular layout, where it is known to be one: it is that triangle, so the layer changes nothing of it.
     pub fn triangle(&self) -> Option<Triangle<Stack<'_>>>
-        ensures { MatchOption result (self.now.side ≡ None) (λ t. (self.now.side ≡ Some t.side) × (⟦<Triangle<Stack<'static>> as Layout>⟧.meaning t ≡ meaning_of self.now)) }
+        ensures side { option_map (λ t. t.side) result ≡ side_of self.now }
+        ensures is { IfSome result (λ t. IsTriangle t.side (meaning_of self.now)) }
+        ensures same { IfSome result (λ t. ⟦<Triangle<Stack<'static>> as Layout>⟧.meaning t ≡ meaning_of self.now) }
     {
         let side = self.side?;
         Some(Triangle {
@@ -62,10 +61,10 @@ impl SharedStack {
         })
     }
 
-    // A layer over this layout. It shares the run; where this layout has four layers already, it gets a dense copy of it.
+    // This stack under one more layer. It shares the run; where no layer is free, the lowest being taken too, it lies over a dense copy.
     pub fn with_layer(&self, heap: Global, layer: Layer) -> Result<SharedStack, AllocError>
         ensures means { IfOk result (λ s. meaning_of s ≡ layered layer (meaning_of self.now)) }
-        ensures side { IfOk result (λ s. s.side ≡ layered_side layer self.now.side) }
+        ensures side { IfOk result (λ s. side_of s ≡ layered_side layer (side_of self.now)) }
     {
         let side = layer.side_over(self.side);
         if let [Layer::Plain, second, third, fourth] = self.layers {

@@ -1,6 +1,5 @@
-use Rattle.std.proofs.Common.{◌≡◌, ℕ, ◌*◌, max, List, map, sym, ap, ◌∙◌, arith}
+use Rattle.std.proofs.Common.{◌≡◌, ℕ, ◌*◌, max, map, ap, ◌∙◌, arith}
 use Rattle.std.specs.List.{range_with_len}
-use Rattle.cells.specs.declared.cell.Record.{Record}
 use Rattle.layouts.specs.Stored.{dense}
 use Rattle.stacks.proofs.Matrices.{cell_of, dense_same}
 use Rattle.stacks.proofs.dense_copy.dense_copy.Goals as goal

@@ -1,9 +1,10 @@
-use Rattle.std.proofs.Common.{rules, Vec, Global, ◌≡◌, ℕ, length, ◌∙◌, ap, sym, arith, get_or}
+use Rattle.std.proofs.Common.{rules, Vec, Global, ◌≡◌, length, ap, arith, get_or}
 use Rattle.cells.specs.declared.cell.Record.{Record}
 use Rattle.stacks.specs.Shared.{meaning_of}
 use Rattle.stacks.specs.declared.layered.Layer.TheVariants.{Plain}
-use Rattle.stacks.specs.Stacks.{read_by, stacked, layered}
-use Rattle.stacks.proofs.Sides.{named_over, lowest_plain}
+use Rattle.stacks.specs.Stacks.{read_by}
+use Rattle.stacks.proofs.Layers.{lowest_plain}
+use Rattle.stacks.proofs.Sides.{named_over}
 use Rattle.stacks.proofs.shared_stack.SharedStack.with_layer.Goals as goal
 
 pub invariant_of-result : goal.invariant_of-result
