@@ -17,7 +17,7 @@ pub struct DenseCopy {
     pub stride: usize,
 }
 
-// Column after column, each of `stride` places; a place outside the shape is empty.
+// The cells of a layout at so many places, column after column, each column with `stride` of them; outside the shape they are empty.
 fn all_columns<L: Layout>(
     heap: Global,
     layout: &L,
@@ -32,7 +32,7 @@ fn all_columns<L: Layout>(
         .collect(heap)
 }
 
-// It means the same matrix as the layout.
+// The copy means the same matrix as the layout.
 pub fn dense_copy<L: Layout>(heap: Global, layout: &L) -> Result<DenseCopy, AllocError>
     ensures { IfOk result (λ copy. dense copy.run.items copy.rows copy.columns copy.stride ≡ L.Layout.meaning layout.now) }
 {

@@ -16,7 +16,8 @@ use layouts::triangle::Triangle;
 use std::alloc::{AllocError, Global};
 use std::rc::Rc;
 
-// A storage with its run under layers. It is known to be triangular of a side only where its scheme or its layers make it so.
+// A storage with its run, under layers. Its side is named where the scheme or a layer makes it triangular; a matrix that merely happens to be
+// triangular has none.
 #[derive(Drop)]
 pub struct SharedStack {
     run: Rc<Vec<Record>>,
@@ -61,7 +62,8 @@ impl SharedStack {
         })
     }
 
-    // This stack under one more layer. It shares the run; where no layer is free, the lowest being taken too, it lies over a dense copy.
+    // This stack under one more layer. Where the lowest layer is plain, the others move down by one, and the run is shared; where none is free,
+    // the layer is put over a dense copy.
     pub fn with_layer(&self, heap: Global, layer: Layer) -> Result<SharedStack, AllocError>
         ensures means { IfOk result (λ s. meaning_of s ≡ layered layer (meaning_of self.now)) }
         ensures side { IfOk result (λ s. side_of s ≡ layered_side layer (side_of self.now)) }
