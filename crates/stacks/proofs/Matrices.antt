@@ -1,7 +1,8 @@
--- When two matrices are the same, and which one dense storage reads where the cells of a matrix lie column after column.
+-- Which entries make a matrix again: its own triangle, if it is one, and its cells as dense storage reads them, column after column.
 use Rattle.std.proofs.Common.{◌≡◌, ◌⊎◌, inl, inr, ℕ, ◌*◌, ◌/◌, ◌%◌, ◌<◌, ◌≤◌, max, true, false, cond, ◌&&◌, ltb, List, length, map, sym, ap, ◌∙◌, refl, arith}
 use Rattle.std.proofs.Math.Path.{fun_ext}
-use Rattle.std.proofs.lemmas.Bool.{cond_both, cond-true, and_parts, and_from, and_cases, le-leb, ltb-true, ltb-false}
+use Rattle.std.proofs.lemmas.Bool.{cond_both, cond-true, and_parts, and_cases, ltb-true, ltb-false}
+use Rattle.std.proofs.lemmas.Bool.Decides.{nat_tests}
 use Rattle.std.proofs.lemmas.List.FromFn.{get_or-map-range_with_len, length-map-range_with_len}
 use Rattle.std.proofs.lemmas.Nat.{div-mul-add, mod-mul-add, mul-add-lt}
 use Rattle.std.specs.List.{range_with_len}
@@ -14,16 +15,9 @@ use Rattle.layouts.specs.Matrix.{Matrix, Sound, shaped, nothing}
 use Rattle.layouts.specs.Sides.{on_side, IsTriangle}
 use Rattle.layouts.specs.Stored.{dense_place, dense_fit, dense}
 
--- one shape and the same entries
-same : (m n : Matrix) → m.rows ≡ n.rows → m.columns ≡ n.columns → ((i j : ℕ) → m.entry i j ≡ n.entry i j) → m ≡ n
-same m n r c e =
-    ap (λ (k : ℕ). let t : Matrix = record { rows = k; columns = m.columns; entry = m.entry } in t) r
-    ∙ ap (λ (k : ℕ). let t : Matrix = record { rows = n.rows; columns = k; entry = m.entry } in t) c
-    ∙ ap (λ (f : ℕ → ℕ → Value). let t : Matrix = record { rows = n.rows; columns = n.columns; entry = f } in t) (fun_ext (λ i. fun_ext (λ j. e i j)))
-
 -- outside its shape a matrix is empty, so entries that agree with it inside make it
 shaped_same : (m : Matrix) (f : ℕ → ℕ → Value) → Sound m → ((i j : ℕ) → i < m.rows → j < m.columns → f i j ≡ m.entry i j) → shaped m.rows m.columns f ≡ m
-shaped_same m f s e = same (shaped m.rows m.columns f) m refl refl at
+shaped_same m f s e = ap (λ (g : ℕ → ℕ → Value). let n : Matrix = record { rows = m.rows; columns = m.columns; entry = g } in n) (fun_ext (λ i. fun_ext (λ j. at i j)))
   where
     outside : (i j : ℕ) → (ltb i m.rows ≡ false) ⊎ (ltb j m.columns ≡ false) → empty ≡ m.entry i j
     outside i j (inl b) = sym (s.below i j (ltb-false i m.rows b))
@@ -48,11 +42,11 @@ triangle_same side m s t =
 abbrev pub cell_of : Matrix → (stride place : ℕ) → Record
 cell_of m stride k = written (m.entry (k % stride) (k / stride))
 
+-- the figures of a copy are fit
 copied_fit : (run : List Record) (rows columns stride : ℕ) → rows ≤ 1024 → columns ≤ 1024 → stride ≡ max rows 1 → length run ≡ stride * columns → dense_fit run rows columns stride ≡ true
-copied_fit run rows columns stride few narrow wide long =
-    and_from _ _ (le-leb rows 1024 few)
-    (and_from _ _ (le-leb columns 1024 narrow) (and_from _ _ (le-leb 1 stride (omega arith)) (and_from _ _ (le-leb rows stride (omega arith)) (le-leb (stride * columns) (length run) (omega arith)))))
+copied_fit run rows columns stride few narrow wide long = grind (arith, nat_tests)
 
+-- dense storage over these cells means the matrix again
 pub dense_same : (m : Matrix) (run : List Record) (stride : ℕ) → ((c : Value) → IsCell c → read_as (written c) ≡ c) → Sound m → stride ≡ max m.rows 1
     → run ≡ map (cell_of m stride) (range_with_len 0 (stride * m.columns)) → dense run m.rows m.columns stride ≡ m
 dense_same m run stride back s wide is =
