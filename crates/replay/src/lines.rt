@@ -4,17 +4,17 @@ ghost use Rattle.replay.specs.Stages.{Fits};
 
 use crate::answer::Answer;
 use crate::memory::{Memory, Runs};
-use crate::names::{Bound, Names};
+use crate::names::Names;
 use crate::stage::{self, Free, Left, Stage};
 use cells::cell::Record;
 use cells::reading::read;
 use layouts::figures::Figures;
-use layouts::triangle::Triangle;
 use layouts::unit_diagonal::UnitDiagonal;
 use script::line::{Line, Matrix};
 use script::reading;
 use sheet::shape::Shape;
 use stacks::layered::{Layer, Ones};
+use stacks::shared_stack::SharedStack;
 use std::alloc::{AllocError, Global};
 use std::collections::HashMap;
 use std::fmt;
@@ -39,7 +39,7 @@ fn made(
     heap: Global,
     matrix: Matrix<'_>,
     names: &Names,
-) -> Result<Option<(Bound, Answer)>, AllocError> {
+) -> Result<Option<(SharedStack, Answer)>, AllocError> {
     match matrix {
         Matrix::Stored { scheme, run } => {
             let run = run.to_cells(heap)?;
@@ -47,49 +47,44 @@ fn made(
                 Ok(()) => Answer::Granted,
                 Err(_) => Answer::Unfit,
             };
-            Ok(Some((Bound::stored(heap, scheme, run)?, answer)))
+            Ok(Some((SharedStack::new(heap, scheme, run)?, answer)))
         }
         Matrix::Transposed { other } => match names.get(other) {
             None => Ok(None),
-            Some(below) => {
-                let side = below.side.map(|side| side.opposite());
-                Ok(Some((below.under(heap, Layer::Transposed, side)?, Answer::Granted)))
-            }
+            Some(below) => Ok(Some((below.with_layer(heap, Layer::Transposed)?, Answer::Granted))),
         },
         Matrix::Symmetric { side, other } => match names.get(other) {
             None => Ok(None),
             Some(below) => Ok(Some((
-                below.under(heap, Layer::Symmetric(side), None)?,
+                below.with_layer(heap, Layer::Symmetric(side))?,
                 Answer::Granted,
             ))),
         },
         Matrix::Triangle { side, other } => match names.get(other) {
             None => Ok(None),
             Some(below) => Ok(Some((
-                below.under(heap, Layer::Triangle(side), Some(side))?,
+                below.with_layer(heap, Layer::Triangle(side))?,
                 Answer::Granted,
             ))),
         },
         Matrix::Unit { unit, other } => match names.get(other) {
             None => Ok(None),
-            Some(below) => match below.side {
+            Some(below) => match below.triangle() {
                 None => Ok(None),
-                Some(side) => {
+                Some(triangle) => {
+                    let ones = Ones {
+                        side: triangle.side,
+                        unit,
+                    };
                     let layer = UnitDiagonal {
-                        below: Triangle {
-                            below: below.stack(),
-                            side,
-                        },
+                        below: triangle,
                         unit,
                     };
                     let answer = match layer.check() {
                         Ok(()) => Answer::Granted,
                         Err(_) => Answer::Unfit,
                     };
-                    Ok(Some((
-                        below.under(heap, Layer::Unit(Ones { side, unit }), Some(side))?,
-                        answer,
-                    )))
+                    Ok(Some((below.with_layer(heap, Layer::Unit(ones))?, answer)))
                 }
             },
         },

@@ -15,7 +15,6 @@ use crate::memory::Memory;
 use crate::names::Names;
 use cells::cell::Record;
 use cells::rules::{Hull, Meet};
-use layouts::triangle::Triangle;
 use script::line::{Ask, Bounds, Call, Question, Rule};
 use sheet::questions::Questions;
 use sheet::refusal::Refusal;
@@ -205,15 +204,9 @@ fn call_working(
         },
         Call::Solve { k, matrix, alpha } => match names.get(matrix) {
             None => not_taken(sheet),
-            Some(bound) => match bound.side {
+            Some(bound) => match bound.triangle() {
                 None => not_taken(sheet),
-                Some(side) => {
-                    let triangle = Triangle {
-                        below: bound.stack(),
-                        side,
-                    };
-                    called(sheet.solve(k, &triangle, alpha, cells, draft))
-                }
+                Some(triangle) => called(sheet.solve(k, &triangle, alpha, cells, draft)),
             },
         },
         Call::Join { k, x, rule } => called(match rule {

@@ -1,1 +1,2 @@
+pub mod Shared
 pub mod Stacks

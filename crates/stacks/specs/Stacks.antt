@@ -1,8 +1,11 @@
 -- What the layouts that are chosen while a program runs mean: what the storage and the layers mean that were chosen.
-use Rattle.std.specs.Prelude.{◌≡◌, Bool, false, List, [], ◌∷◌}
+use Rattle.std.specs.Prelude.{◌≡◌, Bool, false, List, [], ◌∷◌, Option, Some, None}
+use Rattle.std.specs.Option.{option_map, ForSome}
 use Rattle.cells.specs.declared.cell.Record.{Record}
 use Rattle.layouts.specs.Layers.{transposed, transposed_sound, symmetric, symmetric_sound, triangle, triangle_sound, unit_diagonal, unit_sound}
+use Rattle.layouts.specs.declared.side.Side.{Side}
 use Rattle.layouts.specs.Matrix.{Matrix, Sound, nothing}
+use Rattle.layouts.specs.Sides.{opposite, IsTriangle}
 use Rattle.layouts.specs.Stored.{dense, dense_sound, dense_fit, dense_unfit, band, band_sound, band_fit, band_unfit, packed, packed_sound, packed_fit, packed_unfit}
 use Rattle.stacks.specs.declared.layered.Layer.{Layer}
 use Rattle.stacks.specs.declared.layered.Layer.TheVariants as layer
@@ -58,3 +61,22 @@ layered_sound (layer.Unit ones) m s = unit_sound ones.unit (triangle ones.side m
 abbrev pub stacked : List Layer → Matrix → Matrix
 stacked [] m = m
 stacked (l ∷ ls) m = stacked ls (layered l m)
+
+-- ---- the side that is named for a layout which is known to be triangular
+
+abbrev pub stored_side : Scheme → Option Side
+stored_side (scheme.Dense rows columns stride) = None
+stored_side (scheme.Band rows columns below above stride) = None
+stored_side (scheme.Packed side n) = Some side
+
+-- by the layer and the side that is named for what lies below it
+abbrev pub layered_side : Layer → Option Side → Option Side
+layered_side layer.Plain below = below
+layered_side layer.Transposed below = option_map opposite below
+layered_side (layer.Symmetric side) below = None
+layered_side (layer.Triangle side) below = Some side
+layered_side (layer.Unit ones) below = Some ones.side
+
+-- where a side is named, the matrix is that triangle
+abbrev pub IsAsNamed : Option Side → Matrix → Type 0
+IsAsNamed named m = ForSome named (λ side. IsTriangle side m)

@@ -2,7 +2,7 @@
 ghost use Rattle.std.specs.Prelude.{◌≡◌};
 ghost use Rattle.layouts.specs.Layers.{triangle, unit_diagonal};
 ghost use Rattle.stacks.specs.declared.layered.Layer.TheVariants.{Unit};
-ghost use Rattle.stacks.specs.Stacks.{layered, layered_sound};
+ghost use Rattle.stacks.specs.Stacks.{layered, layered_side, layered_sound};
 
 use cells::cell::{Cell, Places};
 use layouts::layout::Layout;
@@ -28,6 +28,21 @@ pub enum Layer {
 pub struct Ones {
     pub side: Side,
     pub unit: i64,
+}
+
+impl Layer {
+    // The side of the layer, if it is triangular: over a layout that is the triangle of a side, if of any.
+    pub fn side_over(self, below: Option<Side>) -> Option<Side>
+        ensures { result ≡ layered_side self below }
+    {
+        match self {
+            Layer::Plain => below,
+            Layer::Transposed => below.map(|side| side.opposite()),
+            Layer::Symmetric(_) => None,
+            Layer::Triangle(side) => Some(side),
+            Layer::Unit(ones) => Some(ones.side),
+        }
+    }
 }
 
 impl Ones {

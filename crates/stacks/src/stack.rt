@@ -1,9 +1,10 @@
 // A storage under four layers, of which any may be plain.
 ghost use Rattle.std.specs.Prelude.{◌≡◌};
-ghost use Rattle.stacks.specs.Stacks.{stored, layered, stacked};
+ghost use Rattle.stacks.specs.Stacks.{stored, stacked};
 
 use crate::layered::{Layer, Layered};
 use crate::storage::Storage;
+use layouts::layout::Layout;
 
 pub const LAYERS: usize = 4;
 
@@ -11,7 +12,7 @@ pub type Stack<'a> = Layered<Layered<Layered<Layered<Storage<'a>>>>>;
 
 // The first layer lies lowest.
 pub fn stack(storage: Storage<'_>, layers: [Layer; LAYERS]) -> Stack<'_>
-    ensures { layered result.layer (layered result.below.layer (layered result.below.below.layer (layered result.below.below.below.layer (stored result.below.below.below.below)))) ≡ stacked layers (stored storage.entry) }
+    ensures { ⟦<Stack<'static> as Layout>⟧.meaning result ≡ stacked layers (stored storage.entry) }
 {
     let [first, second, third, fourth] = layers;
     let below = Layered {

@@ -1,6 +1,6 @@
 // A storage whose scheme is known only while the program runs.
 ghost use Rattle.std.specs.Prelude.{◌≡◌};
-ghost use Rattle.stacks.specs.Stacks.{stored, stored_sound, stored_fit, stored_unfit, read_by};
+ghost use Rattle.stacks.specs.Stacks.{stored, stored_sound, stored_fit, stored_unfit, stored_side, read_by};
 
 use cells::cell::{Cell, Places, Record};
 use layouts::band::Band;
@@ -99,6 +99,16 @@ pub enum Scheme {
 }
 
 impl Scheme {
+    // The side of a triangular storage.
+    pub fn side(self) -> Option<Side>
+        ensures { result ≡ stored_side self }
+    {
+        match self {
+            Scheme::Packed { side, .. } => Some(side),
+            _ => None,
+        }
+    }
+
     // The storage of this scheme over a run.
     pub fn over(self, run: &[Record]) -> Storage<'_>
         ensures { stored result ≡ read_by self run.now }
