@@ -1,46 +1,67 @@
 // Numbers, cells and names, each from one word.
+ghost use Rattle.std.specs.Prelude.{◌≡◌, ◌<◌, ◌-◌, ◌^◌, IsTrue, SomeIff, if◌then◌else◌, length, min, pos};
+ghost use Rattle.std.specs.Char.{is_ascii_digit};
+ghost use Rattle.std.specs.List.{list_all};
+ghost use Rattle.std.specs.Str.Parse.{digits_value};
+ghost use Rattle.script.specs.Numbers.{is_digits, count_of, size_of, is_small_or_digit, is_name};
+
 use cells::cell::{EMPTY, Record};
 
-// Whether a word is digits without a leading zero, or 0 alone.
-fn is_digits(word: &[u8]) -> bool {
-    match word {
-        [b'0'] => true,
-        [b'1'..=b'9', rest @ ..] => rest.iter().all(u8::is_ascii_digit),
-        _ => false,
-    }
+fn all_digits(word: &[u8]) -> bool
+    ensures { result ≡ list_all is_ascii_digit word.now }
+{
+    word.iter().all(u8::is_ascii_digit)
+}
+
+// Whether a word is digits: one, or several of which the first is not 0.
+fn is_digits(word: &[u8]) -> bool
+    ensures { result ≡ is_digits word.now }
+{
+    all_digits(word) && (word.len() == 1 || word.len() > 1 && word[0] > b'0')
+}
+
+// The number of digits, where it fits 64 bits.
+fn value(digits: &[u8]) -> Option<usize>
+    requires { IsTrue (list_all is_ascii_digit digits.now) }
+    ensures { SomeIff result ((0 < length digits.now) × (digits_value 10 digits.now < 2 ^ 64)) (digits_value 10 digits.now) }
+{
+    str::from_utf8(digits).ok()?.parse().ok()
 }
 
 // None where the word is no number, or one with a hyphen or beyond 2^64 - 1.
-pub fn count(word: &[u8]) -> Option<usize> {
+pub fn count(word: &[u8]) -> Option<usize>
+    ensures { result ≡ count_of word.now }
+{
+    if is_digits(word) { value(word) } else { None }
+}
+
+// The number of digits, held at the highest `i64`.
+fn held(word: &[u8]) -> Option<i64>
+    ensures { result ≡ (if is_digits word.now then Some (pos (min (digits_value 10 word.now) (2 ^ 63 - 1))) else None) }
+{
     if !is_digits(word) {
         return None;
     }
-    let mut number: usize = 0;
-    for digit in word {
-        number = number
-            .checked_mul(10)?
-            .checked_add(usize::from(digit.wrapping_sub(b'0')))?;
-    }
+    let number = match value(word) {
+        Some(number) => i64::try_from(number).unwrap_or(i64::MAX),
+        None => i64::MAX,
+    };
     Some(number)
 }
 
-// A number of any size, held at the bounds of an `i64`: each bound is far beyond all that a sheet takes, so what is held there is
-// answered as the number itself would be.
-pub fn size(word: &[u8]) -> Option<i64> {
-    let (negative, digits) = match word {
-        [b'-', digits @ ..] => (true, digits),
-        digits => (false, digits),
-    };
-    if !is_digits(digits) || (negative && digits.first() == Some(&b'0')) {
-        return None;
+// A number of any size, held at the highest `i64` on either side of 0: that is far beyond all that a sheet takes, so what is held
+// there is answered as the number itself would be.
+#[tactic(auto, using(crate::proofs::Held::held_below))]
+pub fn size(word: &[u8]) -> Option<i64>
+    ensures { result ≡ size_of word.now }
+{
+    match word {
+        [b'-', digits @ ..] => match held(digits)? {
+            0 => None,
+            number => Some(-number),
+        },
+        digits => held(digits),
     }
-    let mut number: i64 = 0;
-    for digit in digits {
-        number = number
-            .saturating_mul(10)
-            .saturating_add(i64::from(digit.wrapping_sub(b'0')));
-    }
-    Some(if negative { number.saturating_neg() } else { number })
 }
 
 // Bounds that a record cannot hold make no cell.
@@ -61,11 +82,18 @@ pub fn cell(word: &[u8]) -> Option<Record> {
     Some(record(size(lower)?, size(upper)?))
 }
 
-pub fn is_name(word: &[u8]) -> bool {
+fn are_small_or_digits(word: &[u8]) -> bool
+    ensures { result ≡ list_all is_small_or_digit word.now }
+{
+    word.iter()
+        .all(|b| b.is_ascii_lowercase() || b.is_ascii_digit())
+}
+
+pub fn is_name(word: &[u8]) -> bool
+    ensures { result ≡ is_name word.now }
+{
     match word {
-        [b'a'..=b'z', rest @ ..] => rest
-            .iter()
-            .all(|b| b.is_ascii_lowercase() || b.is_ascii_digit()),
-        _ => false,
+        [first, rest @ ..] => first.is_ascii_lowercase() && are_small_or_digits(rest),
+        [] => false,
     }
 }

@@ -1,0 +1,47 @@
+-- The words of a script: numbers, cells and names.
+use Rattle.std.specs.Prelude.{ℕ, suc, ◌+◌, ◌-◌, ◌^◌, Bool, ◌&&◌, ◌||◌, ◌==◌, nat_lt, if◌then◌else◌, List, [], ◌∷◌, length, map, drop, slice_index, min, ℤ, pos, negsuc, neg_ℤ, Option, Some, None, zero}
+use Rattle.std.specs.Char.{is_ascii_digit, is_ascii_lowercase}
+use Rattle.std.specs.Int.Digits.{digits_of}
+use Rattle.std.specs.List.{list_all}
+use Rattle.std.specs.Option.{option_map}
+use Rattle.std.specs.Str.Parse.{digits_value}
+
+-- digits: one, or several of which the first is not 0
+abbrev pub is_digits : List ℕ → Bool
+is_digits word = list_all is_ascii_digit word && (length word == 1 || nat_lt 48 (slice_index word 0))
+
+-- the number that a word is the text of: such digits, or, behind a hyphen, such digits of a number above 0
+abbrev pub number : List ℕ → Option ℤ
+number word =
+    if slice_index word 0 == 45
+    then (if is_digits (drop 1 word) && nat_lt 0 (digits_value 10 (drop 1 word)) then Some (neg_ℤ (pos (digits_value 10 (drop 1 word)))) else None)
+    else (if is_digits word then Some (pos (digits_value 10 word)) else None)
+
+-- a count: a number from 0 that fits 64 bits
+abbrev pub count_of : List ℕ → Option ℕ
+count_of word = if is_digits word && nat_lt (digits_value 10 word) (2 ^ 64) then Some (digits_value 10 word) else None
+
+-- a number held at 2^63 - 1 on either side of 0
+abbrev pub held : ℤ → ℤ
+held (pos n) = pos (min n (2 ^ 63 - 1))
+held (negsuc n) = negsuc (min n (2 ^ 63 - 2))
+
+-- a size, held
+abbrev pub size_of : List ℕ → Option ℤ
+size_of word = option_map held (number word)
+
+-- the text of a number, of any size
+abbrev pub plain : ℕ → List ℕ
+plain zero = 48 ∷ []
+plain (suc n) = map (λ d. 48 + d) (digits_of 10 (suc n))
+
+abbrev pub text : ℤ → List ℕ
+text (pos n) = plain n
+text (negsuc n) = 45 ∷ plain (suc n)
+
+-- a small letter, and then small letters and digits
+abbrev pub is_small_or_digit : ℕ → Bool
+is_small_or_digit c = is_ascii_lowercase c || is_ascii_digit c
+
+abbrev pub is_name : List ℕ → Bool
+is_name word = is_ascii_lowercase (slice_index word 0) && list_all is_small_or_digit (drop 1 word)
