@@ -1,2 +1,4 @@
 pub mod Held
+pub mod Texts
+pub mod Made
 pub mod Digits

@@ -1,10 +1,12 @@
 -- The words of a script: numbers, cells and names.
-use Rattle.std.specs.Prelude.{ℕ, suc, ◌+◌, ◌-◌, ◌^◌, Bool, ◌&&◌, ◌||◌, ◌==◌, nat_lt, if◌then◌else◌, List, [], ◌∷◌, length, map, drop, slice_index, min, ℤ, pos, negsuc, neg_ℤ, Option, Some, None, zero}
+use Rattle.std.specs.Prelude.{cond, ℕ, suc, ◌+◌, ◌-◌, ◌^◌, Bool, ◌&&◌, ◌||◌, ◌==◌, nat_lt, if◌then◌else◌, List, [], ◌∷◌, length, map, drop, slice_index, min, ℤ, pos, negsuc, neg_ℤ, Option, Some, None, zero}
 use Rattle.std.specs.Char.{is_ascii_digit, is_ascii_lowercase}
 use Rattle.std.specs.Int.Digits.{digits_of}
-use Rattle.std.specs.List.{list_all}
+use Rattle.std.specs.List.{list_all, before_first, after_first}
 use Rattle.std.specs.Option.{option_map}
 use Rattle.std.specs.Str.Parse.{digits_value}
+use Rattle.arithmetic.specs.Values.{Value, empty, bounds}
+use Rattle.cells.specs.Cells.{broken}
 
 -- digits: one, or several of which the first is not 0
 abbrev pub is_digits : List ℕ → Bool
@@ -38,6 +40,27 @@ plain (suc n) = map (λ d. 48 + d) (digits_of 10 (suc n))
 abbrev pub text : ℤ → List ℕ
 text (pos n) = plain n
 text (negsuc n) = 45 ∷ plain (suc n)
+
+-- the cell of two numbers, empty where they make none
+abbrev pub made : ℤ → ℤ → Value
+made l u = cond (broken l u) empty (bounds l u)
+
+abbrev pub made_of : Option ℤ → Option ℤ → Option Value
+made_of None u = None
+made_of (Some l) None = None
+made_of (Some l) (Some u) = Some (made l u)
+
+abbrev pub is_dot : ℕ → Bool
+is_dot b = b == 46
+
+-- a cell: a hyphen alone, or two numbers with two dots between
+abbrev pub cell_of : List ℕ → Option Value
+cell_of word =
+    if length word == 1 && slice_index word 0 == 45
+    then Some empty
+    else (if slice_index (after_first is_dot word) 0 == 46
+    then made_of (number (before_first is_dot word)) (number (drop 1 (after_first is_dot word)))
+    else None)
 
 -- a small letter, and then small letters and digits
 abbrev pub is_small_or_digit : ℕ → Bool

@@ -2,10 +2,13 @@
 ghost use Rattle.std.specs.Prelude.{◌≡◌, ◌<◌, ◌-◌, ◌^◌, IsTrue, SomeIff, if◌then◌else◌, length, min, pos};
 ghost use Rattle.std.specs.Char.{is_ascii_digit};
 ghost use Rattle.std.specs.List.{list_all};
+ghost use Rattle.std.specs.Option.{option_map};
 ghost use Rattle.std.specs.Str.Parse.{digits_value};
-ghost use Rattle.script.specs.Numbers.{is_digits, count_of, size_of, is_small_or_digit, is_name};
+ghost use Rattle.cells.specs.Cells.{read_as};
+ghost use Rattle.script.specs.Numbers.{number, made, made_of, cell_of, is_digits, count_of, size_of, is_small_or_digit, is_name};
 
 use cells::cell::{EMPTY, Record};
+use rounding::rest::dividing::LIMIT;
 
 fn all_digits(word: &[u8]) -> bool
     ensures { result ≡ list_all is_ascii_digit word.now }
@@ -64,22 +67,38 @@ pub fn size(word: &[u8]) -> Option<i64>
     }
 }
 
-// Bounds that a record cannot hold make no cell.
-fn record(lower: i64, upper: i64) -> Record {
-    match (i32::try_from(lower), i32::try_from(upper)) {
-        (Ok(lower), Ok(upper)) => Record { lower, upper },
-        _ => EMPTY,
+// The record of two numbers, empty where they make no cell.
+fn record(lower: i64, upper: i64) -> Record
+    ensures { read_as result ≡ made lower upper }
+{
+    let limit = i64::from(LIMIT);
+    if lower < -limit || upper > limit || lower > upper {
+        return EMPTY;
+    }
+    Record {
+        lower: lower as i32,
+        upper: upper as i32,
     }
 }
 
-pub fn cell(word: &[u8]) -> Option<Record> {
+#[tactic(auto, using(crate::proofs::Made::sizes))]
+fn bounded(lower: &[u8], upper: &[u8]) -> Option<Record>
+    ensures { option_map read_as result ≡ made_of (number lower.now) (number upper.now) }
+{
+    Some(record(size(lower)?, size(upper)?))
+}
+
+pub fn cell(word: &[u8]) -> Option<Record>
+    ensures { option_map read_as result ≡ cell_of word.now }
+{
     if word.len() == 1 && word[0] == b'-' {
         return Some(EMPTY);
     }
     let at = word.iter().position(|b| *b == b'.')?;
-    let (lower, rest) = word.split_at(at);
-    let upper = rest.strip_prefix(b"..")?;
-    Some(record(size(lower)?, size(upper)?))
+    match &word[at + 1..] {
+        [b'.', upper @ ..] => bounded(&word[..at], upper),
+        _ => None,
+    }
 }
 
 fn are_small_or_digits(word: &[u8]) -> bool
