@@ -1,9 +1,9 @@
 -- The words of a script: numbers, cells and names.
-use Rattle.std.specs.Prelude.{cond, ℕ, suc, ◌+◌, ◌-◌, ◌^◌, Bool, ◌&&◌, ◌||◌, ◌==◌, nat_lt, if◌then◌else◌, List, [], ◌∷◌, length, map, drop, slice_index, min, ℤ, pos, negsuc, neg_ℤ, Option, Some, None, zero}
+use Rattle.std.specs.Prelude.{cond, ℕ, suc, ◌+◌, ◌-◌, ◌^◌, Bool, ◌&&◌, ◌||◌, ◌==◌, nat_lt, if◌then◌else◌, List, [], ◌∷◌, length, map, take, drop, slice_index, min, ℤ, pos, negsuc, neg_ℤ, Option, Some, None, zero}
 use Rattle.std.specs.Char.{is_ascii_digit, is_ascii_lowercase}
 use Rattle.std.specs.Int.Digits.{digits_of}
-use Rattle.std.specs.List.{list_all, before_first, after_first}
-use Rattle.std.specs.Option.{option_map}
+use Rattle.std.specs.List.{list_all, position}
+use Rattle.std.specs.Option.{option_map, unwrap_or}
 use Rattle.std.specs.Str.Parse.{digits_value}
 use Rattle.arithmetic.specs.Values.{Value, empty, bounds}
 use Rattle.cells.specs.Cells.{broken}
@@ -50,17 +50,23 @@ made_of None u = None
 made_of (Some l) None = None
 made_of (Some l) (Some u) = Some (made l u)
 
-abbrev pub is_dot : ℕ → Bool
-is_dot b = b == 46
+abbrev pub is_hyphen : List ℕ → Bool
+is_hyphen word = length word == 1 && slice_index word 0 == 45
 
--- a cell: a hyphen alone, or two numbers with two dots between
+-- the place of the first dot, or the length where there is none
+abbrev pub first_dot : List ℕ → ℕ
+first_dot word = unwrap_or (position (λ b. b == 46) word) (length word)
+
+-- two numbers with two dots between
+abbrev pub pair_of : List ℕ → Option Value
+pair_of word =
+    if slice_index word (first_dot word + 1) == 46
+    then made_of (number (take (first_dot word) word)) (number (drop (first_dot word + 2) word))
+    else None
+
+-- a cell: a hyphen is the empty one
 abbrev pub cell_of : List ℕ → Option Value
-cell_of word =
-    if length word == 1 && slice_index word 0 == 45
-    then Some empty
-    else (if slice_index (after_first is_dot word) 0 == 46
-    then made_of (number (before_first is_dot word)) (number (drop 1 (after_first is_dot word)))
-    else None)
+cell_of word = if is_hyphen word then Some empty else pair_of word
 
 -- a small letter, and then small letters and digits
 abbrev pub is_small_or_digit : ℕ → Bool

@@ -1,11 +1,11 @@
 // Numbers, cells and names, each from one word.
-ghost use Rattle.std.specs.Prelude.{◌≡◌, ◌<◌, ◌-◌, ◌^◌, IsTrue, SomeIff, if◌then◌else◌, length, min, pos};
+ghost use Rattle.std.specs.Prelude.{◌≡◌, ◌==◌, ◌<◌, ◌≤◌, ◌-◌, ◌^◌, IsTrue, IfSome, SomeIff, if◌then◌else◌, length, slice_index, min, pos};
 ghost use Rattle.std.specs.Char.{is_ascii_digit};
-ghost use Rattle.std.specs.List.{list_all};
+ghost use Rattle.std.specs.List.{list_all, position};
 ghost use Rattle.std.specs.Option.{option_map};
 ghost use Rattle.std.specs.Str.Parse.{digits_value};
 ghost use Rattle.cells.specs.Cells.{read_as};
-ghost use Rattle.script.specs.Numbers.{number, made, made_of, cell_of, is_digits, count_of, size_of, is_small_or_digit, is_name};
+ghost use Rattle.script.specs.Numbers.{number, made, made_of, first_dot, pair_of, cell_of, is_digits, count_of, size_of, is_small_or_digit, is_name};
 
 use cells::cell::{EMPTY, Record};
 use rounding::rest::dividing::LIMIT;
@@ -88,16 +88,46 @@ fn bounded(lower: &[u8], upper: &[u8]) -> Option<Record>
     Some(record(size(lower)?, size(upper)?))
 }
 
+fn dot(word: &[u8]) -> Option<usize>
+    ensures place { result ≡ position (λ b. b == 46) word.now }
+    ensures within { IfSome result (λ at. at < length word.now) }
+{
+    word.iter().position(|b| *b == b'.')
+}
+
+fn first_dot(word: &[u8]) -> usize
+    ensures place { result ≡ first_dot word.now }
+    ensures within { result ≤ length word.now }
+{
+    dot(word).unwrap_or(word.len())
+}
+
+fn is_at(word: &[u8], place: usize, byte: u8) -> bool
+    requires { 0 < byte }
+    ensures { result ≡ (slice_index word.now place == byte) }
+{
+    place < word.len() && word[place] == byte
+}
+
+fn pair(word: &[u8]) -> Option<Record>
+    ensures { option_map read_as result ≡ pair_of word.now }
+{
+    let at = first_dot(word);
+    if is_at(word, at + 1, b'.') {
+        bounded(&word[..at], &word[at + 2..])
+    } else {
+        None
+    }
+}
+
+// Two bounds with two dots between; or a hyphen, the empty cell.
 pub fn cell(word: &[u8]) -> Option<Record>
     ensures { option_map read_as result ≡ cell_of word.now }
 {
-    if word.len() == 1 && word[0] == b'-' {
-        return Some(EMPTY);
-    }
-    let at = word.iter().position(|b| *b == b'.')?;
-    match &word[at + 1..] {
-        [b'.', upper @ ..] => bounded(&word[..at], upper),
-        _ => None,
+    if word.len() == 1 && is_at(word, 0, b'-') {
+        Some(EMPTY)
+    } else {
+        pair(word)
     }
 }
 
