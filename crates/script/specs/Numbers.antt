@@ -1,5 +1,5 @@
 -- The words of a script: numbers, cells and names.
-use Rattle.std.specs.Prelude.{cond, ℕ, suc, ◌+◌, ◌-◌, ◌^◌, Bool, ◌&&◌, ◌||◌, ◌==◌, nat_lt, if◌then◌else◌, List, [], ◌∷◌, length, map, take, drop, slice_index, min, ℤ, pos, negsuc, neg_ℤ, Option, Some, None, zero}
+use Rattle.std.specs.Prelude.{◌≡◌, ◌⊎◌, ◌++◌, cond, ℕ, suc, ◌+◌, ◌-◌, ◌^◌, Bool, ◌&&◌, ◌||◌, ◌==◌, nat_lt, if◌then◌else◌, List, [], ◌∷◌, length, map, take, drop, slice_index, min, ℤ, pos, negsuc, neg_ℤ, Option, Some, None, zero}
 use Rattle.std.specs.Char.{is_ascii_digit, is_ascii_lowercase}
 use Rattle.std.specs.Int.Digits.{digits_of}
 use Rattle.std.specs.List.{list_all, position}
@@ -67,6 +67,12 @@ pair_of word =
 -- a cell: a hyphen is the empty one
 abbrev pub cell_of : List ℕ → Option Value
 cell_of word = if is_hyphen word then Some empty else pair_of word
+
+-- a word that stands for a cell: a hyphen for the empty one, and two texts with two dots between for that of their numbers
+abbrev pub StandsFor : List ℕ → Value → Type 0
+StandsFor word cell =
+    ((word ≡ 45 ∷ []) × (cell ≡ empty))
+    ⊎ ((l : ℤ) × (u : ℤ) × (word ≡ text l ++ (46 ∷ 46 ∷ text u)) × (cell ≡ made l u))
 
 -- a small letter, and then small letters and digits
 abbrev pub is_small_or_digit : ℕ → Bool

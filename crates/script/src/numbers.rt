@@ -1,11 +1,13 @@
 // Numbers, cells and names, each from one word.
-ghost use Rattle.std.specs.Prelude.{◌≡◌, ◌==◌, ◌<◌, ◌≤◌, ◌-◌, ◌^◌, IsTrue, IfSome, SomeIff, if◌then◌else◌, length, slice_index, min, pos};
+ghost use Rattle.std.specs.Prelude.{ℕ, ℤ, ◌≡◌, ◌≢◌, ◌==◌, ◌<◌, ◌≤◌, ◌-◌, ◌^◌, IsTrue, IfSome, MatchOption, SomeIff, if◌then◌else◌, length, slice_index, min, pos};
 ghost use Rattle.std.specs.Char.{is_ascii_digit};
+ghost use Rattle.std.specs.Fmt.{decimal};
 ghost use Rattle.std.specs.List.{list_all, position};
 ghost use Rattle.std.specs.Option.{option_map};
 ghost use Rattle.std.specs.Str.Parse.{digits_value};
+ghost use Rattle.arithmetic.specs.Values.{Value};
 ghost use Rattle.cells.specs.Cells.{read_as};
-ghost use Rattle.script.specs.Numbers.{number, made, made_of, first_dot, pair_of, cell_of, is_digits, count_of, size_of, is_small_or_digit, is_name};
+ghost use Rattle.script.specs.Numbers.{StandsFor, held, text, number, made, made_of, first_dot, pair_of, cell_of, is_digits, count_of, size_of, is_small_or_digit, is_name};
 
 use cells::cell::{EMPTY, Record};
 use rounding::rest::dividing::LIMIT;
@@ -33,7 +35,8 @@ fn value(digits: &[u8]) -> Option<usize>
 
 // None where the word is no number, or one with a hyphen or beyond 2^64 - 1.
 pub fn count(word: &[u8]) -> Option<usize>
-    ensures { result ≡ count_of word.now }
+    ensures read { result ≡ count_of word.now }
+    ensures written { MatchOption result ((n : ℕ) → n < 2 ^ 64 → word.now ≢ decimal n) (λ n. word.now ≡ decimal n) }
 {
     if is_digits(word) { value(word) } else { None }
 }
@@ -52,10 +55,8 @@ fn held(word: &[u8]) -> Option<i64>
     Some(number)
 }
 
-// A number of any size, held at the highest `i64` on either side of 0: that is far beyond all that a sheet takes, so what is held
-// there is answered as the number itself would be.
 #[tactic(auto, using(crate::proofs::Held::held_below))]
-pub fn size(word: &[u8]) -> Option<i64>
+fn signed(word: &[u8]) -> Option<i64>
     ensures { result ≡ size_of word.now }
 {
     match word {
@@ -65,6 +66,15 @@ pub fn size(word: &[u8]) -> Option<i64>
         },
         digits => held(digits),
     }
+}
+
+// A number of any size, held at the highest `i64` on either side of 0: that is far beyond all that a sheet takes, so what is held
+// there is answered as the number itself would be.
+pub fn size(word: &[u8]) -> Option<i64>
+    ensures read { result ≡ size_of word.now }
+    ensures written { MatchOption result ((z : ℤ) → word.now ≢ text z) (λ s. (z : ℤ) × (word.now ≡ text z) × (s ≡ held z)) }
+{
+    signed(word)
 }
 
 // The record of two numbers, empty where they make no cell.
@@ -122,7 +132,8 @@ fn pair(word: &[u8]) -> Option<Record>
 
 // Two bounds with two dots between; or a hyphen, the empty cell.
 pub fn cell(word: &[u8]) -> Option<Record>
-    ensures { option_map read_as result ≡ cell_of word.now }
+    ensures read { option_map read_as result ≡ cell_of word.now }
+    ensures written { MatchOption result ((v : Value) → ¬ (StandsFor word.now v)) (λ r. StandsFor word.now (read_as r)) }
 {
     if word.len() == 1 && is_at(word, 0, b'-') {
         Some(EMPTY)
