@@ -1,4 +1,5 @@
 pub mod Held
+pub mod Splits
 pub mod Cells
 pub mod Texts
 pub mod Made

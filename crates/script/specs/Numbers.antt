@@ -80,3 +80,6 @@ is_small_or_digit c = is_ascii_lowercase c || is_ascii_digit c
 
 abbrev pub is_name : List ℕ → Bool
 is_name word = is_ascii_lowercase (slice_index word 0) && list_all is_small_or_digit (drop 1 word)
+
+abbrev pub name_of : List ℕ → Option (List ℕ)
+name_of word = if is_name word then Some word else None
