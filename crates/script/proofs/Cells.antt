@@ -1,9 +1,9 @@
 -- A word that reads as a cell stands for it, and a word that stands for a cell reads as it.
-use Rattle.std.proofs.Common.{◌≡◌, ℕ, zero, suc, ◌+◌, ◌<◌, ◌≤◌, Bool, true, false, cond, not, ◌&&◌, eqb, ltb, leb, List, [], ◌∷◌, ◌++◌, length, get_or, take, drop, ℤ, pos, negsuc, Option, Some, None, MatchOption, ◌⊎◌, refl, sym, ap, ◌∙◌, subst, inl, inr, ⊎_elim, arith}
+use Rattle.std.proofs.Common.{◌≡◌, ℕ, zero, suc, ◌+◌, ◌<◌, ◌≤◌, Bool, true, false, cond, not, eqb, ltb, leb, List, [], ◌∷◌, ◌++◌, length, get_or, take, drop, ℤ, pos, negsuc, Option, Some, None, MatchOption, refl, sym, ap, ◌∙◌, inl, inr, ⊎_elim, arith}
 use Rattle.std.specs.Char.{is_ascii_digit}
-use Rattle.std.specs.List.{list_all, position, position_or_len}
+use Rattle.std.specs.List.{list_all, position_or_len}
 use Rattle.std.specs.Option.{option_map, unwrap_or}
-use Rattle.std.proofs.lemmas.Bool.{and_parts, and_from, and_left, both_ways, eqb-true, leb-true, lt-ltb, ltb-true, ne_eqb, cond-true, cond-false, cases_lt, not_from_false}
+use Rattle.std.proofs.lemmas.Bool.{and_parts, and_from, and_left, both_ways, eqb-true, leb-true, lt-ltb, ltb-true, ne_eqb, cond-true, cond-false, not_from_false}
 use Rattle.std.proofs.lemmas.List.{take-append-drop, get_or-append-add, length-append, drop_more}
 use Rattle.std.proofs.lemmas.List.Sums.{passes_at_first}
 use Rattle.std.proofs.Math.Seq.{take-append_seam, drop-append-add}
@@ -11,7 +11,7 @@ use Rattle.arithmetic.specs.Values.{Value, empty}
 use Rattle.cells.specs.Cells.{read_as}
 use Rattle.cells.specs.declared.cell.Record.{Record}
 use Rattle.script.proofs.Texts.{text_number, number_text, value_plain}
-use Rattle.script.specs.Numbers.{is_digits, number, text, plain, made, made_of, is_hyphen, first_dot, pair_of, cell_of, StandsFor}
+use Rattle.script.specs.Numbers.{number, text, plain, made, made_of, is_hyphen, first_dot, pair_of, cell_of, StandsFor}
 
 abbrev dot : ℕ → Bool
 dot b = eqb b 46

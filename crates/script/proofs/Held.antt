@@ -1,5 +1,5 @@
 -- A number below 0, held.
-use Rattle.std.proofs.Common.{◌≡◌, ℕ, ◌<◌, ◌-◌, ◌^◌, min, pos, negsuc, neg_ℤ, refl, sym, ap, arith, zero, suc}
+use Rattle.std.proofs.Common.{◌≡◌, ℕ, ◌-◌, ◌^◌, min, pos, negsuc, neg_ℤ, refl, sym, ap, arith, zero, suc}
 use Rattle.script.specs.Numbers.{held}
 
 pub held_below : (v : ℕ) → held (neg_ℤ (pos v)) ≡ neg_ℤ (pos (min v (2 ^ 63 - 1)))

@@ -1,9 +1,9 @@
 -- The cell of two numbers is the cell of the numbers held.
-use Rattle.std.proofs.Common.{◌≡◌, ℕ, ◌-◌, ◌^◌, ◌≤◌, Bool, true, false, cond, ◌||◌, min, ℤ, pos, negsuc, ◌≤ℤ◌, Option, Some, None, int_lt, refl, sym, ap, ◌∙◌, arith}
+use Rattle.std.proofs.Common.{◌≡◌, Bool, true, false, ◌||◌, ℤ, pos, negsuc, ◌≤ℤ◌, Option, Some, None, int_lt, refl, sym, ap, ◌∙◌, arith}
 use Rattle.std.specs.Option.{option_map}
-use Rattle.std.proofs.lemmas.Bool.{or_parts, both_ways, true_from_ne_false, false≢true}
+use Rattle.std.proofs.lemmas.Bool.{or_parts, both_ways, true_from_ne_false}
 use Rattle.std.proofs.lemmas.Int.{ints}
-use Rattle.arithmetic.specs.Values.{Value, empty, bounds}
+use Rattle.arithmetic.specs.Values.{Value}
 use Rattle.rounding.specs.Limit.{lowest, highest}
 use Rattle.cells.specs.Cells.{broken}
 use Rattle.script.specs.Numbers.{held, made, made_of}

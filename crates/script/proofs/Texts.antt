@@ -1,19 +1,19 @@
 -- Each number has one text, and what is read of a text is its number.
-use Rattle.std.proofs.Common.{◌≡◌, ◌≢◌, subst, ℕ, zero, suc, ◌+◌, ◌*◌, ◌/◌, ◌%◌, ◌^◌, ◌<◌, ◌≤◌, Bool, true, false, cond, ◌&&◌, ◌||◌, eqb, ltb, leb, List, [], ◌∷◌, ◌++◌, length, get_or, take, map, ℤ, pos, negsuc, neg_ℤ, Option, Some, None, MatchOption, SomeIff, refl, sym, ap, ◌∙◌, ⊎_elim, arith}
+use Rattle.std.proofs.Common.{◌≡◌, ◌≢◌, subst, ℕ, zero, suc, ◌+◌, ◌*◌, ◌/◌, ◌%◌, ◌^◌, ◌<◌, ◌≤◌, Bool, true, false, cond, ◌&&◌, ◌||◌, eqb, ltb, List, [], ◌∷◌, ◌++◌, length, get_or, take, map, ℤ, pos, negsuc, neg_ℤ, Option, Some, None, MatchOption, SomeIff, refl, sym, ap, ◌∙◌, ⊎_elim, arith}
 use Rattle.std.specs.Char.{is_ascii_digit, digit_value}
 use Rattle.std.specs.Fmt.{decimal}
 use Rattle.std.specs.Int.Digits.{digits_of, number_from_digits, AllBelowBase}
 use Rattle.std.specs.List.{list_all}
 use Rattle.std.specs.Option.{option_map}
 use Rattle.std.specs.Str.Parse.{digits_value, AllDigits}
-use Rattle.std.proofs.lemmas.Bool.{cases_eq, and_parts, and_from, or_cases, or_right, or_left, both_ways, eqb-true, ltb-true, lt-ltb, le-leb, ne_eqb, cond-true, cond-false}
+use Rattle.std.proofs.lemmas.Bool.{cases_eq, and_parts, and_from, or_cases, or_right, both_ways, eqb-true, ltb-true, lt-ltb, le-leb, ne_eqb, cond-true, cond-false}
 use Rattle.std.proofs.lemmas.Fmt.{decimal_digit, decimal-digits_of}
 use Rattle.std.proofs.lemmas.Int.Digits.{digits_value_more, digits_of_step, digits_value_is, number_digits_of, all_below_base_digits_of, first_digits_of}
 use Rattle.std.proofs.lemmas.List.{map-append, take_more, take_all}
 use Rattle.std.proofs.lemmas.Str.{digit_value_digit}
 use Rattle.std.proofs.lemmas.Str.Parse.{digit_at, digit_from_value}
-use Rattle.script.proofs.Digits.{Digits, own}
-use Rattle.script.specs.Numbers.{is_digits, plain, text, number, count_of, size_of, held}
+use Rattle.script.proofs.Digits.{own}
+use Rattle.script.specs.Numbers.{is_digits, plain, text, number, size_of, held}
 
 digits_push : (v d : ℕ) → d < 10 → 0 < v * 10 + d → digits_of 10 (v * 10 + d) ≡ digits_of 10 v ++ (d ∷ [])
 digits_push v d h p =
@@ -38,16 +38,22 @@ front_more ds all first k h below = (step (take (suc k) ds) refl, λ _. rw (valu
   where
     at : k < length ds
     at = omega arith
+
     digit : digit_value (get_or ds k 0) + 48 ≡ get_or ds k 0
     digit = digit_value_digit (get_or ds k 0) (digit_at ds k all at)
+
     small : digit_value (get_or ds k 0) < 10
     small = let r = digit_at ds k all at in omega (arith, digit, r.1)
+
     one : take (suc k) ds ≡ take k ds ++ (get_or ds k 0 ∷ [])
     one = let n : suc k ≡ k + 1 = omega arith in ap (λ m. take m ds) n ∙ take_more ds k 0 at
+
     more : 0 < digits_value 10 (take k ds) * 10 + digit_value (get_or ds k 0)
     more = above _ _ k below.1 (λ e. let f : get_or ds k 0 ≡ get_or ds 0 0 = ap (λ n. get_or ds n 0) e in omega (arith, digit, first, f))
+
     value : (t : List ℕ) → t ≡ take (suc k) ds → digits_value 10 t ≡ digits_value 10 (take k ds) * 10 + digit_value (get_or ds k 0)
     value t e = let n : suc k ≡ k + 1 = omega arith in ap (digits_value 10) e ∙ ap (λ m. digits_value 10 (take m ds)) n ∙ digits_value_more 10 ds k at
+
     step : (t : List ℕ) → t ≡ take (suc k) ds → map (λ d. 48 + d) (digits_of 10 (digits_value 10 t)) ≡ t
     step t e =
         let g : 48 + digit_value (get_or ds k 0) ≡ get_or ds k 0 = omega (arith, digit) in
@@ -82,6 +88,7 @@ plain_value ds h =
     many : (ds : List ℕ) → AllDigits 10 ds → 48 < get_or ds 0 0 → plain (digits_value 10 ds) ≡ ds
     many [] all first = absurd (omega arith)
     many (c ∷ cs) all first = plain_front (c ∷ cs) all first (omega arith)
+
     one : (ds : List ℕ) → AllDigits 10 ds → length ds ≡ 1 → plain (digits_value 10 ds) ≡ ds
     one [] all e = absurd (omega arith)
     one (c ∷ d ∷ cs) all e = absurd (omega arith)
@@ -106,9 +113,10 @@ pub value_plain : (n : ℕ) → (is_digits (plain n) ≡ true) × (digits_value 
 value_plain zero = (refl, refl)
 value_plain (suc n) =
     let ds = digits_of 10 (suc n) in
-    let low = all_below_base_digits_of 10 (suc n) (omega arith) in
-    (and_from _ _ (digits_all ds low) (or_right _ _ (lt-ltb _ _ (digits_first ds (first_digits_of 10 (suc n) (omega arith) (omega arith))))),
-    digits_value_is 10 (map (λ d. 48 + d) ds) ∙ ap (number_from_digits 10) (digits_back ds low) ∙ number_digits_of 10 (suc n) (omega arith))
+    let low = all_below_base_digits_of 10 (suc n) (omega arith) in (
+      and_from _ _ (digits_all ds low) (or_right _ _ (lt-ltb _ _ (digits_first ds (first_digits_of 10 (suc n) (omega arith) (omega arith))))),
+      digits_value_is 10 (map (λ d. 48 + d) ds) ∙ ap (number_from_digits 10) (digits_back ds low) ∙ number_digits_of 10 (suc n) (omega arith),
+    )
 
 plain_decimal : (n : ℕ) → n < 2 ^ 64 → plain n ≡ decimal n
 plain_decimal zero h = sym (decimal_digit 0 (omega arith))

@@ -1,5 +1,5 @@
 -- The words of a line.
-use Rattle.std.specs.Prelude.{◌≡◌, ℕ, ◌==◌, List, [], Option, slice_get, Bool}
+use Rattle.std.specs.Prelude.{ℕ, ◌==◌, List, [], Option, slice_get}
 use Rattle.std.specs.List.{slice_split}
 use Rattle.std.specs.Option.{option_map_or}
 use Rattle.script.specs.declared.words.Words.{Words}

@@ -65,18 +65,10 @@ fn call<'a>(word: &[u8], words: &mut Words<'a>) -> Option<Call<'a>> {
 
 fn question(word: &[u8], words: &mut Words<'_>) -> Option<Question> {
     let question = match word {
-        b"norm1" => Question::OneNorm {
-            k: words.count()?,
-        },
-        b"norminf" => Question::InfinityNorm {
-            k: words.count()?,
-        },
-        b"largest" => Question::Largest {
-            k: words.count()?,
-        },
-        b"smallest" => Question::Smallest {
-            k: words.count()?,
-        },
+        b"norm1" => Question::OneNorm { k: words.count()? },
+        b"norminf" => Question::InfinityNorm { k: words.count()? },
+        b"largest" => Question::Largest { k: words.count()? },
+        b"smallest" => Question::Smallest { k: words.count()? },
         b"width" => Question::Width {
             k: words.count()?,
             i: words.count()?,
