@@ -1,8 +1,22 @@
 // The words of a line, one space between two.
+ghost use Rattle.std.specs.Prelude.{◌≡◌, ◌↔◌, ◌==◌, ◌<◌, [], IfSome, IsSome, length, drop};
+ghost use Rattle.std.specs.List.{position};
+ghost use Rattle.std.specs.Option.{option_copied, option_map, option_and_then};
+ghost use Rattle.cells.specs.Cells.{read_as};
+ghost use Rattle.script.specs.Numbers.{count_of, size_of, cell_of, name_of};
+ghost use Rattle.script.specs.Words.{words, left, next};
+
 use crate::numbers;
 use cells::cell::Record;
 use layouts::side::Side;
 use std::alloc::{AllocError, Global};
+
+fn space(line: &[u8]) -> Option<usize>
+    ensures place { result ≡ position (λ b. b == 32) line.now }
+    ensures within { IfSome result (λ at. at < length line.now) }
+{
+    line.iter().position(|b| *b == b' ')
+}
 
 // What is left of a line: none once its last word was taken.
 #[derive(Clone, Copy)]
@@ -11,14 +25,19 @@ pub struct Words<'a> {
 }
 
 impl<'a> Words<'a> {
-    pub fn of(line: &'a [u8]) -> Words<'a> {
+    pub fn of(line: &'a [u8]) -> Words<'a>
+        ensures { left result ≡ words line.now }
+    {
         Words { rest: Some(line) }
     }
 
     // The next word. Where two spaces stand together, or one at an end of the line, it is empty, and no word of the format is.
-    pub fn word(&mut self) -> Option<&'a [u8]> {
+    pub fn word(&mut self) -> Option<&'a [u8]>
+        ensures word { option_copied result ≡ next self.old }
+        ensures others { left self.new ≡ drop 1 (left self.old) }
+    {
         let rest = self.rest?;
-        match rest.iter().position(|b| *b == b' ') {
+        match space(rest) {
             Some(at) => {
                 self.rest = Some(&rest[at + 1..]);
                 Some(&rest[..at])
@@ -30,19 +49,31 @@ impl<'a> Words<'a> {
         }
     }
 
-    pub fn count(&mut self) -> Option<usize> {
+    pub fn count(&mut self) -> Option<usize>
+        ensures count { result ≡ option_and_then count_of (next self.old) }
+        ensures others { left self.new ≡ drop 1 (left self.old) }
+    {
         numbers::count(self.word()?)
     }
 
-    pub fn size(&mut self) -> Option<i64> {
+    pub fn size(&mut self) -> Option<i64>
+        ensures size { result ≡ option_and_then size_of (next self.old) }
+        ensures others { left self.new ≡ drop 1 (left self.old) }
+    {
         numbers::size(self.word()?)
     }
 
-    pub fn cell(&mut self) -> Option<Record> {
+    pub fn cell(&mut self) -> Option<Record>
+        ensures cell { option_map read_as result ≡ option_and_then cell_of (next self.old) }
+        ensures others { left self.new ≡ drop 1 (left self.old) }
+    {
         numbers::cell(self.word()?)
     }
 
-    pub fn name(&mut self) -> Option<&'a [u8]> {
+    pub fn name(&mut self) -> Option<&'a [u8]>
+        ensures name { option_copied result ≡ option_and_then name_of (next self.old) }
+        ensures others { left self.new ≡ drop 1 (left self.old) }
+    {
         let word = self.word()?;
         if numbers::is_name(word) {
             Some(word)
@@ -108,7 +139,9 @@ impl<'a> Words<'a> {
     }
 
     // That no word is left.
-    pub fn end(self) -> Option<()> {
+    pub fn end(self) -> Option<()>
+        ensures { IsSome result ↔ (left self.entry ≡ []) }
+    {
         match self.rest {
             None => Some(()),
             Some(_) => None,
