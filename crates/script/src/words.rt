@@ -82,7 +82,9 @@ impl<'a> Words<'a> {
         }
     }
 
-    pub fn side(&mut self) -> Option<Side> {
+    pub fn side(&mut self) -> Option<Side>
+        ensures { left self.new ≡ drop 1 (left self.old) }
+    {
         match self.word()? {
             b"lower" => Some(Side::Lower),
             b"upper" => Some(Side::Upper),
