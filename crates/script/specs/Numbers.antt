@@ -32,7 +32,7 @@ held (negsuc n) = negsuc (min n (2 ^ 63 - 2))
 abbrev pub size_of : List ℕ → Option ℤ
 size_of word = option_map held (number word)
 
--- the text of a number, of any size
+-- the text of a number, of any size: std has `decimal`, for up to 64 digits
 abbrev pub plain : ℕ → List ℕ
 plain zero = 48 ∷ []
 plain (suc n) = map (λ d. 48 + d) (digits_of 10 (suc n))
@@ -50,6 +50,7 @@ made_of None u = None
 made_of (Some l) None = None
 made_of (Some l) (Some u) = Some (made l u)
 
+-- a hyphen alone
 abbrev pub is_hyphen : List ℕ → Bool
 is_hyphen word = length word == 1 && slice_index word 0 == 45
 

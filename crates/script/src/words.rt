@@ -82,7 +82,9 @@ impl<'a> Words<'a> {
         }
     }
 
-    pub fn side(&mut self) -> Option<Side> {
+    pub fn side(&mut self) -> Option<Side>
+        ensures { left self.new ≡ drop 1 (left self.old) }
+    {
         match self.word()? {
             b"lower" => Some(Side::Lower),
             b"upper" => Some(Side::Upper),
@@ -91,7 +93,10 @@ impl<'a> Words<'a> {
     }
 
     // All words that are left, if each of them is a cell.
-    pub fn cells(&mut self) -> Option<Words<'a>> {
+    pub fn cells(&mut self) -> Option<Words<'a>>
+        ensures all { IfSome result (λ w. left w ≡ left self.old) }
+        ensures others { left self.new ≡ [] }
+    {
         let words = *self;
         if let Some(rest) = self.rest.take() {
             for word in rest.split(|b| *b == b' ') {
@@ -102,7 +107,10 @@ impl<'a> Words<'a> {
     }
 
     // All words that are left, if each of them is a count.
-    pub fn counts(&mut self) -> Option<Words<'a>> {
+    pub fn counts(&mut self) -> Option<Words<'a>>
+        ensures all { IfSome result (λ w. left w ≡ left self.old) }
+        ensures others { left self.new ≡ [] }
+    {
         let words = *self;
         if let Some(rest) = self.rest.take() {
             for word in rest.split(|b| *b == b' ') {
