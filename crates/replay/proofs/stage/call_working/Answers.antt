@@ -12,11 +12,11 @@ pub returns-in-None-get : goal.returns-in-None-get
 returns-in-None-get c = rw c.in-Solve.is (inl (c.not_taken-in-None-get.ensures c.args.cells.now c.args.draft.now))
 
 -- a layout that is not triangular
-pub returns-in-None-side : goal.returns-in-None-side
-returns-in-None-side c = rw c.in-Solve.is (inl (c.not_taken-in-None-side.ensures c.args.cells.now c.args.draft.now))
+pub returns-in-None-triangle : goal.returns-in-None-triangle
+returns-in-None-triangle c = rw c.in-Solve.is (inl (c.not_taken-in-None-triangle.ensures c.args.cells.now c.args.draft.now))
 
-pub returns-in-Some-side : goal.returns-in-Some-side
-returns-in-Some-side c = rw c.in-Solve.is (inr (_, _, c.called-in-Some-side.ensures _ _ _ _ _ c.solve.ensures.calls))
+pub returns-in-Some-triangle : goal.returns-in-Some-triangle
+returns-in-Some-triangle c = rw c.in-Solve.is (inr (_, _, c.called-in-Some-triangle.ensures _ _ _ _ _ c.solve.ensures.calls))
 
 pub returns-in-Ok : goal.returns-in-Ok
 returns-in-Ok c = rw c.in-Permute.is (inr (_, c.called-in-Ok.ensures _ _ _ _ _ c.permute.ensures))
