@@ -18,15 +18,21 @@ pub trait Figures: Layout {
     fn check(&self) -> Result<(), LayoutRefusal>
         ensures { Checked (fit self.now) result }
     {
-        if self.is_fit() {
-            Ok(())
-        } else {
-            Err(LayoutRefusal::UnfitFigures)
-        }
+        checked(self.is_fit())
     }
 
     // a law: unfit figures mean the 0 by 0 matrix
     ghost unfit: { (l : Self) → fit l ≡ false → Self.Layout.meaning l ≡ nothing };
+}
+
+pub(crate) fn checked(fit: bool) -> Result<(), LayoutRefusal>
+    ensures { Checked fit result }
+{
+    if fit {
+        Ok(())
+    } else {
+        Err(LayoutRefusal::UnfitFigures)
+    }
 }
 
 // Whether a run of `len` cells has room for `columns` columns of `stride` places, however large the figures are.

@@ -6,17 +6,24 @@ ghost use Rattle.layouts.specs.Rows.{row_sum, product_at};
 use crate::layout::Layout;
 use crate::operands::RowTimes;
 use crate::vector::Vector;
-use cells::cell::{Factors, Record, Target, Total};
+use cells::cell::{Factors, Record, Target, Total, Totals};
 use cells::fault::CellFault;
 use cells::rounding_out::round_out;
 use cells::totals::weighted;
 use rounding::rest::Rounding;
 
 // Σ L_ij·x_j over all columns of the layout, unrounded.
+// Compiled as a function by itself it asks the layout for its figures again in each row, which is most of the work where x has an empty
+// cell or the figures are unfit. Hence the hint.
+#[inline(always)]
 pub fn row_sum<L: Layout>(layout: &L, row: usize, xs: Vector<'_>) -> Total
     ensures { total_value result ≡ row_sum (L.Layout.meaning layout.now) (cell_at xs.entry.run.now) row }
 {
-    let xs = xs.first(layout.columns())?;
+    let columns = layout.columns();
+    let xs = xs.first(columns)?;
+    if columns == 0 {
+        return Some(Totals::ZERO);
+    }
     RowTimes { layout, row, xs }.sum()
 }
 

@@ -39,6 +39,8 @@ impl<L: Layout> Layout for Symmetric<L> {
         smaller(&self.below)
     }
 
+    // asked at each place of a sum: the hint is that of a triangle's entry
+    #[inline(always)]
     fn entry(&self, row: usize, column: usize) -> Cell {
         let n = smaller(&self.below);
         if row < n && column < n {

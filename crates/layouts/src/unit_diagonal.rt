@@ -1,12 +1,14 @@
 // A triangular layout with exactly one on the diagonal, whatever stands there below.
-ghost use Rattle.std.specs.Prelude.{◌≡◌, ◌+◌, ◌<◌, ◌≤◌, min, max, true, false};
+ghost use Rattle.std.specs.Prelude.{◌≡◌, ◌+◌, ◌<◌, ◌≤◌, min, max, true};
 ghost use Rattle.arithmetic.specs.Values.{bounds};
 ghost use Rattle.cells.specs.Cells.{cell_value};
 ghost use Rattle.layouts.specs.Layers.{smaller as smaller-of, unit_fit, unit_diagonal, unit_unfit, unit_sound};
+ghost use Rattle.layouts.specs.Refusals.{Checked};
 
-use crate::figures::Figures;
+use crate::figures::{Figures, checked};
 use crate::layout::{Layout, Triangular};
 use crate::lines::{smaller, whole};
+use crate::refusal::LayoutRefusal;
 use crate::side::Side;
 use cells::cell::{Cell, Places, Scale};
 
@@ -25,6 +27,21 @@ fn one(unit: i64) -> Cell
     Scale { steps: unit }.one()
 }
 
+impl<T> UnitDiagonal<T> {
+    fn has_fit_unit(&self) -> bool
+        ensures { result ≡ unit_fit self.now.unit }
+    {
+        1 <= self.unit && self.unit <= 100_000
+    }
+
+    // The check of `Figures`, whatever is below: refused where the unit is unfit.
+    pub fn check(&self) -> Result<(), LayoutRefusal>
+        ensures { Checked (unit_fit self.now.unit) result }
+    {
+        checked(self.has_fit_unit())
+    }
+}
+
 // The unit is its one figure; what is below has a check of its own.
 impl<T: Triangular> Figures for UnitDiagonal<T> {
     ghost fit = { λ t. unit_fit t.unit };
@@ -32,20 +49,17 @@ impl<T: Triangular> Figures for UnitDiagonal<T> {
     ghost unfit = { λ t. unit_unfit t.unit (T.Layout.meaning t.below) };
 
     fn is_fit(&self) -> bool {
-        1 <= self.unit && self.unit <= 100_000
+        self.has_fit_unit()
     }
 }
 
 impl<T: Triangular> UnitDiagonal<T> {
     // The places of a line: those of the line below, and the one on the diagonal if it has one.
     fn with_one(&self, diagonal: usize, below: Places) -> Places
-        ensures unfit { unit_fit self.now.unit ≡ false → (result.from ≡ 0) × (result.to ≡ 0) }
-        ensures below { unit_fit self.now.unit ≡ true → smaller-of (T.Layout.meaning self.now.below) ≤ diagonal → (result.from ≡ below.from) × (result.to ≡ below.to) }
-        ensures more { unit_fit self.now.unit ≡ true → diagonal < smaller-of (T.Layout.meaning self.now.below) → (result.from ≡ min diagonal below.from) × (result.to ≡ max (diagonal + 1) below.to) }
+        ensures below { smaller-of (T.Layout.meaning self.now.below) ≤ diagonal → (result.from ≡ below.from) × (result.to ≡ below.to) }
+        ensures more { diagonal < smaller-of (T.Layout.meaning self.now.below) → (result.from ≡ min diagonal below.from) × (result.to ≡ max (diagonal + 1) below.to) }
     {
-        if !self.is_fit() {
-            whole(0)
-        } else if diagonal < smaller(&self.below) {
+        if diagonal < smaller(&self.below) {
             Places {
                 from: diagonal.min(below.from),
                 to: (diagonal + 1).max(below.to),
@@ -89,10 +103,16 @@ impl<T: Triangular> Layout for UnitDiagonal<T> {
     }
 
     fn across(&self, row: usize) -> Places {
+        if !self.is_fit() {
+            return whole(0);
+        }
         self.with_one(row, self.below.across(row))
     }
 
     fn down(&self, column: usize) -> Places {
+        if !self.is_fit() {
+            return whole(0);
+        }
         self.with_one(column, self.below.down(column))
     }
 }
