@@ -14,7 +14,7 @@ use rounding::rest::Rounding;
 
 // Σ L_ij·x_j over all columns of the layout, unrounded.
 // Compiled as a function by itself it asks the layout for its figures again in each row, which is most of the work where x has an empty
-// cell or the figures are unfit. Hence the hint.
+// cell: hence the hint. Of a layout without columns, as one with unfit figures is, no row is asked for.
 #[inline(always)]
 pub fn row_sum<L: Layout>(layout: &L, row: usize, xs: Vector<'_>) -> Total
     ensures { total_value result ≡ row_sum (L.Layout.meaning layout.now) (cell_at xs.entry.run.now) row }

@@ -39,7 +39,7 @@ impl<L: Layout> Layout for Symmetric<L> {
         smaller(&self.below)
     }
 
-    // asked at each place of a sum: the hint is that of a triangle's entry
+    // asked at each place of a sum: hence the hint, as at a triangle's entry
     #[inline(always)]
     fn entry(&self, row: usize, column: usize) -> Cell {
         let n = smaller(&self.below);

@@ -16,12 +16,17 @@ pub struct Triangle<L> {
     pub side: Side,
 }
 
-// Of the places of a line that has one on the diagonal, those of the layout below that are on a side.
+// Of the places of a line, those of the layout below that are on a side; all where the line has none on the diagonal.
 fn kept(side: Side, diagonal: usize, line: Places, below: Places) -> Places
-    requires { diagonal < line.to }
-    ensures { (result.to ≡ min (half_to side diagonal line.to) (max (half_from side diagonal) below.to)) × (result.from ≡ min result.to (max (half_from side diagonal) below.from)) }
+    ensures none { line.to ≤ diagonal → (result.from ≡ line.from) × (result.to ≡ line.to) }
+    ensures kept { diagonal < line.to → (result.to ≡ min (half_to side diagonal line.to) (max (half_from side diagonal) below.to)) × (result.from ≡ min result.to (max (half_from side diagonal) below.from)) }
 {
-    overlap(below, half(side, diagonal, line))
+    let places = half(side, diagonal, line);
+    if diagonal < line.to {
+        overlap(below, places)
+    } else {
+        places
+    }
 }
 
 impl<L: Layout> Layout for Triangle<L> {
@@ -54,20 +59,12 @@ impl<L: Layout> Layout for Triangle<L> {
 
     fn across(&self, row: usize) -> Places {
         let line = whole(smaller(&self.below));
-        if row < line.to {
-            kept(self.side, row, line, self.below.across(row))
-        } else {
-            line
-        }
+        kept(self.side, row, line, self.below.across(row))
     }
 
     fn down(&self, column: usize) -> Places {
         let line = whole(smaller(&self.below));
-        if column < line.to {
-            kept(self.side.opposite(), column, line, self.below.down(column))
-        } else {
-            line
-        }
+        kept(self.side.opposite(), column, line, self.below.down(column))
     }
 }
 
